@@ -1,0 +1,15 @@
+use borrow.Author.Needs.{needs}
+use Rattle.aid.proofs.Spans.{starts, measured}
+use Rattle.aid.proofs.Aid.part_len.Statement.{statement}
+use Rattle.aid.proofs.Aid.part_len.Tie as tie
+
+pub part-len-spec : {M : Type 1} → statement M
+part-len-spec =
+    tie.close
+    (tie.spec
+    (λ c κs. search needs)
+    (λ c. search needs)
+    (λ c. starts (search needs) (c .before .before .before .span-of .ensures) (c .before .start .given .1))
+    (λ c. search needs)
+    (λ c. measured (search needs) (c .before .before .before .span-of .ensures) (c .before .start .given .1))
+    (λ c. rw (← c .before .before .span-of .ensures .shows, c .enum-told .given .1)))

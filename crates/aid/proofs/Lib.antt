@@ -1,0 +1,5 @@
+pub mod Making
+pub mod Spans
+pub mod Prefix
+pub mod Single
+pub mod Whole

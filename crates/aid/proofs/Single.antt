@@ -1,0 +1,83 @@
+-- One reply: any two replies, and buffers at exit, that an operation's contract allows are equal. Assumes nothing.
+use Prim.Native.Nat.{ℕ}
+use mathlib.Core.Path.{_≡_, refl, _∙⁻¹_}
+use mathlib.Core.Bool.{Bool}
+use mathlib.Core.List.{List}
+use Rattle.basis.specs.Reply.{is, then}
+use Rattle.aid.specs.Making.{said, try-new-is, try-new-truncatable-is}
+use Rattle.aid.specs.Category.{category-is, is-in-is}
+use Rattle.aid.specs.Part.{saidLength, saidCopied, part-len-is, copy-part-is}
+use Rattle.aid.specs.Matches.{matches-is}
+use Rattle.aid.specs.declared.Aid.{Aid}
+use Rattle.aid.specs.declared.Answer.{Answer}
+use Rattle.aid.specs.declared.Answer.the-variants as answer
+use Rattle.aid.specs.declared.TryNew.{TryNew}
+use Rattle.aid.specs.declared.category.Category.{Category}
+use Rattle.aid.specs.declared.category.Category.the-variants.{International, National, Standard, Proprietary}
+use Rattle.aid.specs.declared.part.Part.{Part}
+use Rattle.aid.specs.declared.part.Length.{Length}
+use Rattle.aid.specs.declared.part.Length.the-variants as len
+use Rattle.aid.specs.declared.part.Copied.{Copied}
+use Rattle.aid.specs.declared.part.Copied.the-variants as copied
+
+-- what was said tells the answer
+answer-said : (a b : Answer) (x y : Aid) → then (said a) (λ u. is x) ≡ then (said b) (λ u. is y) → a ≡ b
+answer-said answer.Made answer.Made x y e = refl
+answer-said answer.Made (answer.Refused k) x y e = cc
+answer-said (answer.Refused k) answer.Made x y e = cc
+answer-said (answer.Refused k) (answer.Refused j) x y e = cc
+
+length-said : (a b : Length) → saidLength a ≡ saidLength b → a ≡ b
+length-said (len.Bytes n) (len.Bytes m) e = cc
+length-said (len.Bytes n) len.None e = cc
+length-said len.None (len.Bytes m) e = cc
+length-said len.None len.None e = refl
+
+copied-said : (a b : Copied) → saidCopied a ≡ saidCopied b → a ≡ b
+copied-said (copied.Bytes n) (copied.Bytes m) e = cc
+copied-said (copied.Bytes n) copied.None e = cc
+copied-said (copied.Bytes n) (copied.Refused j) e = cc
+copied-said copied.None (copied.Bytes m) e = cc
+copied-said copied.None copied.None e = refl
+copied-said copied.None (copied.Refused j) e = cc
+copied-said (copied.Refused k) (copied.Bytes m) e = cc
+copied-said (copied.Refused k) copied.None e = cc
+copied-said (copied.Refused k) (copied.Refused j) e = cc
+
+pub try-new-truncatable : (name : List ℕ) (t : ℕ) (r s : TryNew)
+    → try-new-truncatable-is name t r → try-new-truncatable-is name t s → r ≡ s
+try-new-truncatable name t r s p q =
+    let answers : r .answer ≡ s .answer = answer-said _ _ (r .aid) (s .aid) (p .answered ∙⁻¹ q .answered) in
+    let aids : r .aid ≡ s .aid = p .held ∙⁻¹ q .held in
+    λ i. record { answer = answers i; aid = aids i }
+
+pub try-new : (name : List ℕ) (r s : TryNew) → try-new-is name r → try-new-is name s → r ≡ s
+try-new name r s p q = try-new-truncatable _ _ r s p q
+
+pub category : (a : Aid) (r s : Category) → category-is a r → category-is a s → r ≡ s
+category a r s p q = p ∙⁻¹ q
+
+is-in : (k : Category) (a : Aid) (r s : Bool) → is-in-is k a r → is-in-is k a s → r ≡ s
+is-in k a r s p q = p ∙⁻¹ q
+
+pub is-international : (a : Aid) (r s : Bool) → is-in-is International a r → is-in-is International a s → r ≡ s
+is-international = is-in International
+
+pub is-national : (a : Aid) (r s : Bool) → is-in-is National a r → is-in-is National a s → r ≡ s
+is-national = is-in National
+
+pub is-standard : (a : Aid) (r s : Bool) → is-in-is Standard a r → is-in-is Standard a s → r ≡ s
+is-standard = is-in Standard
+
+pub is-proprietary : (a : Aid) (r s : Bool) → is-in-is Proprietary a r → is-in-is Proprietary a s → r ≡ s
+is-proprietary = is-in Proprietary
+
+pub part-len : (p : Part) (a : Aid) (r s : Length) → part-len-is p a r → part-len-is p a s → r ≡ s
+part-len p a r s x y = length-said r s (x ∙⁻¹ y)
+
+pub copy-part : (p : Part) (a : Aid) (to : List ℕ) (r s : Copied) (after after' : List ℕ)
+    → copy-part-is p a to r after → copy-part-is p a to s after' → (r ≡ s) × (after ≡ after')
+copy-part p a to r s after after' x y = (copied-said r s (x .reply ∙⁻¹ y .reply), x .buffer ∙⁻¹ y .buffer)
+
+pub matches : (a : Aid) (name : List ℕ) (r s : Bool) → matches-is a name r → matches-is a name s → r ≡ s
+matches a name r s p q = p ∙⁻¹ q

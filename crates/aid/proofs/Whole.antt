@@ -1,0 +1,77 @@
+-- That an AID by value stays whole: what is made is made of a name, and has what the Rust takes for granted. Assumes nothing.
+use Prim.Native.Nat.{ℕ, zero, suc, _-_}
+use mathlib.Core.Path.{_≡_, refl, sym, _∙_}
+use mathlib.Core.Bool.{true, false, true≢false}
+use mathlib.Core.List.{List, [], _∷_}
+use native.Mathlib.Omega.{arith}
+use native.Mathlib.Decide.{decLe}
+use native.Mathlib.Nat.{sub-zero, zero-sub, suc-sub-suc}
+use lib.ListN.{length, getD, drop, replicate, List·getD-append}
+use lib.Seq.{take-append-seam, drop-append-seam}
+use Rattle.basis.specs.Reply.{Reply, is, no as refused, then}
+use Rattle.basis.specs.Part.{over}
+use Rattle.basis.proofs.Part.{length-over}
+use Rattle.basis.proofs.Reply.{no-is}
+use Rattle.aid.specs.Category.{categoryOf}
+use Rattle.aid.specs.Part.{whole, registered}
+use Rattle.aid.specs.Making.{noRid, underFive, tested, holding, tryNew, orBlank, try-new-truncatable-is, Held, Whole}
+use Rattle.aid.specs.declared.Aid.{Aid}
+use Rattle.aid.specs.declared.TryNew.{TryNew}
+use Rattle.aid.specs.declared.category.Category.{Category}
+use Rattle.aid.specs.declared.category.Category.the-variants.{International, National, Standard, Proprietary, Other}
+use Rattle.aid.proofs.Making.{Passed, passed}
+
+or-blank : (name : List ℕ) (t : ℕ) (x : Reply Aid) → tryNew name t ≡ x → Held (orBlank x)
+unfolding tryNew tested underFive categoryOf
+or-blank name t (is a) e = (name, (t, e))
+or-blank name t (refused k) e = (0 ∷ [], (1, refl))
+
+-- also beside a refusal
+pub held : (name : List ℕ) (t : ℕ) (r : TryNew) → try-new-truncatable-is name t r → Held (r .aid)
+held name t r h = rw (h .held) (or-blank name t (tryNew name t) refl)
+
+-- what passes with under five bytes is neither national nor international
+short : (k : Category) → noRid k ≡ is tt → registered k ≡ false
+short International e = cc
+short National e = cc
+short Standard e = refl
+short Proprietary e = refl
+short Other e = refl
+
+made : (x : Reply (Unit {0})) (a b : Aid) → then x (λ u. is a) ≡ is b → (x ≡ is tt) × (a ≡ b)
+made (is tt) a b e = (refl, cc)
+made (refused k) a b e = absurd (no-is k b e)
+
+-- what is left of equal elements
+drop-replicate : (n m a : ℕ) → drop n (replicate m a) ≡ replicate (m - n) a
+drop-replicate zero m a = rw sub-zero
+drop-replicate (suc n) zero a = rw zero-sub
+drop-replicate (suc n) (suc m) a = rw suc-sub-suc (drop-replicate n m a)
+
+holding-whole : (name : List ℕ) (t : ℕ) → Passed name t → Whole (holding name t)
+unfolding over underFive
+holding-whole name t h =
+    let first : getD (over name (replicate 16 0)) 0 0 ≡ getD name 0 0 = List·getD-append name _ 0 0 (h .some) in
+    record {
+      array = length-over name (replicate 16 0) (h .most);
+      least = h .some;
+      most = h .most;
+      zeros = drop-append-seam name (drop (length name) (replicate 16 0)) ∙ drop-replicate (length name) 16 0;
+      cut = h .cut;
+      rid = λ e. elim (decLe 5 (length name)) [
+        | yes g ↦ g
+        | no g ↦ absurd (true≢false (sym (rw first at e) ∙ short (categoryOf (getD name 0 0)) (h .rid (omega arith))))
+      ];
+    }
+
+made-of : (name : List ℕ) (t : ℕ) (a : Aid) → tryNew name t ≡ is a → Passed name t × (holding name t ≡ a)
+unfolding tryNew
+made-of name t a e = let m = made (tested name t) (holding name t) a e in (passed name t (m .0), m .1)
+
+-- an AID's bytes are the name that it was made of
+pub kept : (name : List ℕ) (t : ℕ) (a : Aid) → tryNew name t ≡ is a → whole a ≡ name
+unfolding over
+kept name t a e = rw (← made-of name t a e .1) (take-append-seam name _)
+
+pub is-whole : (a : Aid) → Held a → Whole a
+is-whole a h = let m = made-of (h .0) (h .1 .0) a (h .1 .1) in rw (← m .1) (holding-whole (h .0) (h .1 .0) (m .0))

@@ -1,0 +1,4 @@
+pub mod Category
+pub mod Making
+pub mod Part
+pub mod Matches

@@ -1,0 +1,21 @@
+-- Matching a name. Document 01, "Class and AID": a prefix of the AID, at least as long as the truncated length.
+use Prim.Native.Nat.{ℕ}
+use mathlib.Core.Path.{_≡_}
+use mathlib.Core.Bool.{Bool, true, false, cond}
+use mathlib.Core.List.{List, [], _∷_}
+use lib.Dec.{eqb, ltb}
+use lib.ListN.{length}
+use Rattle.aid.specs.Part.{whole}
+use Rattle.aid.specs.declared.Aid.{Aid}
+
+unfoldable pub prefix : List ℕ → List ℕ → Bool
+prefix [] l = true
+prefix (x ∷ xs) [] = false
+prefix (x ∷ xs) (y ∷ ys) = cond (eqb x y) (prefix xs ys) false
+
+unfoldable pub matchesOf : Aid → List ℕ → Bool
+matchesOf a name = cond (ltb (length name) (a .truncated)) false (prefix name (whole a))
+
+-- the promise of `matches`
+abbrev pub matches-is : Aid → List ℕ → Bool → Type 0
+matches-is a name r = r ≡ matchesOf a name

@@ -1,0 +1,86 @@
+-- The parts of an AID, as lengths and copies. Document 01, "What changes shape"; ISO/IEC 7816-4:2005 8.2.1.2: a RID has five bytes, a PIX follows it.
+use Prim.Native.Nat.{ℕ, _-_, _≤_}
+use mathlib.Core.Path.{_≡_}
+use mathlib.Core.Bool.{Bool, true, false, cond}
+use mathlib.Core.List.{List}
+use mathlib.Core.Option.{Option, none, some}
+use lib.Dec.{leb, ltb}
+use lib.ListN.{length, take, drop}
+use Rattle.basis.specs.Reply.{Reply, is, no}
+use Rattle.basis.specs.Part.{over}
+use Rattle.aid.specs.Category.{category}
+use Rattle.aid.specs.declared.Aid.{Aid}
+use Rattle.aid.specs.declared.category.Category.{Category}
+use Rattle.aid.specs.declared.category.Category.the-variants.{International, National, Standard, Proprietary, Other}
+use Rattle.aid.specs.declared.part.Part.{Part}
+use Rattle.aid.specs.declared.part.Part.the-variants as part
+use Rattle.aid.specs.declared.part.Span.{Span}
+use Rattle.aid.specs.declared.part.Span.the-variants as span
+use Rattle.aid.specs.declared.part.Length.{Length}
+use Rattle.aid.specs.declared.part.Length.the-variants as len
+use Rattle.aid.specs.declared.part.Copied.{Copied}
+use Rattle.aid.specs.declared.part.Copied.the-variants as copied
+
+-- the bytes of an AID: as many as its length says, of the 16 there are
+abbrev pub whole : Aid → List ℕ
+whole a = take (a .len) (a .bytes)
+
+abbrev pub registered : Category → Bool
+registered International = true
+registered National = true
+registered Standard = false
+registered Proprietary = false
+registered Other = false
+
+-- only a national or international AID of at least five bytes has a RID and a PIX
+unfoldable pub hasRid : Aid → Bool
+hasRid a = cond (registered (category a)) (leb 5 (length (whole a))) false
+
+unfoldable pub partOf : Part → Aid → Option (List ℕ)
+partOf part.Bytes a = some (whole a)
+partOf part.Truncated a = some (take (a .truncated) (a .bytes))
+partOf part.Rid a = cond (hasRid a) (some (take 5 (whole a))) none
+partOf part.Pix a = cond (hasRid a) (some (drop 5 (whole a))) none
+
+abbrev pub lengthOf : Option (List ℕ) → Option ℕ
+lengthOf none = none
+lengthOf (some l) = some (length l)
+
+-- the reply to a copy of a part into a buffer of n bytes, and the buffer after it
+abbrev pub copyOf : Option (List ℕ) → ℕ → Reply (Option ℕ)
+copyOf none n = is none
+copyOf (some l) n = cond (ltb n (length l)) (no 16) (is (some (length l)))
+
+abbrev pub copyTo : Option (List ℕ) → List ℕ → List ℕ
+copyTo none to = to
+copyTo (some l) to = cond (ltb (length to) (length l)) to (over l to)
+
+abbrev pub saidLength : Length → Option ℕ
+saidLength (len.Bytes n) = some n
+saidLength len.None = none
+
+abbrev pub saidCopied : Copied → Reply (Option ℕ)
+saidCopied (copied.Bytes n) = is (some n)
+saidCopied copied.None = is none
+saidCopied (copied.Refused k) = no k
+
+-- the promises of `part_len` and `copy_part`
+abbrev pub part-len-is : Part → Aid → Length → Type 0
+part-len-is p a r = saidLength r ≡ lengthOf (partOf p a)
+
+pub record copy-part-is (p : Part) (a : Aid) (to : List ℕ) (r : Copied) (after : List ℕ) : Type 0 where
+  pub reply : saidCopied r ≡ copyOf (partOf p a) (length to)
+  pub buffer : after ≡ copyTo (partOf p a) to
+
+-- the contract of the private `span_of`: what a span of the 16 bytes shows, and that it lies in them
+abbrev pub shown : List ℕ → Span → Option (List ℕ)
+shown l (span.Of s e) = some (take (e - s) (drop s l))
+shown l span.None = none
+
+abbrev pub Inside : Span → Type 0
+Inside (span.Of s e) = (s ≤ e) × (e ≤ 16)
+Inside span.None = Unit {0}
+
+pub record Spans (p : Part) (a : Aid) (r : Span) : Type 0 where
+  pub shows : shown (a .bytes) r ≡ partOf p a
+  pub inside : Inside r

@@ -1,0 +1,80 @@
+// The category of an AID, by the high half of its first byte.
+ghost use mathlib.Core.Path.{_≡_};
+ghost use Rattle.aid.specs.Category.{categoryOf, numberOf, category-is, is-in-is};
+ghost use Rattle.aid.specs.declared.category.Category.the-variants.{International, National, Standard, Proprietary};
+use crate::Aid;
+
+pub enum Category {
+    International,
+    National,
+    Standard,
+    Proprietary,
+    Other,
+}
+
+// Of a name that starts with this byte.
+pub(crate) fn of(first: u8) -> Category
+    ensures { λ r. ⌜ r ≡ categoryOf first ⌝ }
+{
+    let high = first / 16;
+    match high {
+        0xA => Category::International,
+        0xD => Category::National,
+        0xE => Category::Standard,
+        0xF => Category::Proprietary,
+        _ => Category::Other,
+    }
+}
+
+// The categories by number, to compare two.
+fn number(k: Category) -> u8
+    ensures { λ r. ⌜ r ≡ numberOf k ⌝ }
+{
+    match k {
+        Category::International => 0,
+        Category::National => 1,
+        Category::Standard => 2,
+        Category::Proprietary => 3,
+        Category::Other => 4,
+    }
+}
+
+impl Aid {
+    pub fn category(self) -> Category
+        ensures { λ r. ⌜ category-is self r ⌝ }
+    {
+        let bytes = self.bytes;
+        of(bytes[0])
+    }
+
+    // Whether this is its category.
+    fn is_in(self, k: Category) -> bool
+        ensures { λ r. ⌜ is-in-is k self r ⌝ }
+    {
+        number(self.category()) == number(k)
+    }
+
+    pub fn is_international(self) -> bool
+        ensures { λ r. ⌜ is-in-is International self r ⌝ }
+    {
+        self.is_in(Category::International)
+    }
+
+    pub fn is_national(self) -> bool
+        ensures { λ r. ⌜ is-in-is National self r ⌝ }
+    {
+        self.is_in(Category::National)
+    }
+
+    pub fn is_standard(self) -> bool
+        ensures { λ r. ⌜ is-in-is Standard self r ⌝ }
+    {
+        self.is_in(Category::Standard)
+    }
+
+    pub fn is_proprietary(self) -> bool
+        ensures { λ r. ⌜ is-in-is Proprietary self r ⌝ }
+    {
+        self.is_in(Category::Proprietary)
+    }
+}

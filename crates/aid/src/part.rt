@@ -1,0 +1,104 @@
+// The parts of an AID: all its bytes, its truncated part, its RID and its PIX, as lengths and copies.
+ghost use mathlib.Core.Path.{_≡_};
+ghost use Prim.Native.Nat.{min};
+ghost use Rattle.aid.specs.Part.{hasRid, Spans, part-len-is, copy-part-is};
+use crate::Aid;
+use crate::Category;
+
+pub enum Part {
+    Bytes,
+    Truncated,
+    Rid,
+    Pix,
+}
+
+// How many bytes a part has, or that there is no such part.
+pub enum Length {
+    Bytes(usize),
+    None,
+}
+
+// How many bytes were copied, or that there is no such part.
+pub enum Copied {
+    Bytes(usize),
+    None,
+    Refused(u8),
+}
+
+// Where a part starts and ends among the bytes.
+enum Span {
+    Of(usize, usize),
+    None,
+}
+
+// A length, at most the 16 bytes there are.
+pub(crate) fn up_to_16(n: usize) -> usize
+    ensures { λ r. ⌜ r ≡ min n 16 ⌝ }
+{
+    if n <= 16 { n } else { 16 }
+}
+
+// Whether an AID starts with a RID: national or international, and at least five bytes.
+fn has_rid(aid: Aid) -> bool
+    ensures { λ r. ⌜ r ≡ hasRid aid ⌝ }
+{
+    let long = 5 <= up_to_16(aid.len);
+    match aid.category() {
+        Category::International => long,
+        Category::National => long,
+        Category::Standard => false,
+        Category::Proprietary => false,
+        Category::Other => false,
+    }
+}
+
+fn span_of(aid: Aid, part: Part) -> Span
+    ensures { λ r. ⌜ Spans part aid r ⌝ }
+{
+    let end = up_to_16(aid.len);
+    match part {
+        Part::Bytes => Span::Of(0, end),
+        Part::Truncated => Span::Of(0, up_to_16(aid.truncated)),
+        Part::Rid => {
+            if has_rid(aid) {
+                Span::Of(0, 5)
+            } else {
+                Span::None
+            }
+        }
+        Part::Pix => {
+            if has_rid(aid) {
+                Span::Of(5, end)
+            } else {
+                Span::None
+            }
+        }
+    }
+}
+
+impl Aid {
+    pub fn part_len(self, part: Part) -> Length
+        ensures { λ r. ⌜ part-len-is part self r ⌝ }
+    {
+        match span_of(self, part) {
+            Span::Of(start, end) => Length::Bytes(end - start),
+            Span::None => Length::None,
+        }
+    }
+
+    // Copies a part to the front of a lent buffer.
+    pub fn copy_part(self, part: Part, to: &mut [u8]) -> Copied
+        ensures { λ r. ⌜ copy-part-is part self (now (to .entry)) r (now (to .exit)) ⌝ }
+    {
+        match span_of(self, part) {
+            Span::None => Copied::None,
+            Span::Of(start, end) => {
+                if to.len() < end - start {
+                    return Copied::Refused(16);
+                }
+                let bytes = self.bytes;
+                Copied::Bytes(bytes::copy(&bytes[start..end], to))
+            }
+        }
+    }
+}

@@ -1,0 +1,5 @@
+pub mod Tests
+pub mod Truth
+pub mod Reply
+pub mod Part
+pub mod Number

@@ -1,0 +1,4 @@
+pub mod Reply
+pub mod Part
+pub mod Number
+pub mod Differ

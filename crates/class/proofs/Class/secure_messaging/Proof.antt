@@ -1,0 +1,47 @@
+use borrow.Author.Needs.{needs}
+use mathlib.Core.Path.{sym, _∙_}
+use Rattle.class.specs.SecureMessaging.{secureMessagingOf}
+use Rattle.class.proofs.Ranges.{interindustry}
+use Rattle.class.proofs.Class.secure_messaging.Statement.{statement}
+use Rattle.class.proofs.Class.secure_messaging.Tie as tie
+
+returns : tie.Need-returns
+unfolding secureMessagingOf
+returns c =
+    let w = c .before .before .before .before in
+    rw (interindustry _ _ _ _ (w .before .before .range .ensures) (w .which .given .1) (c .before .enum-told .given .1))
+    (c .first .ensures)
+
+returns-2 : tie.Need-returns-2
+unfolding secureMessagingOf
+returns-2 c =
+    let w = c .before .before .before .before in
+    rw (interindustry _ _ _ _ (w .before .before .range .ensures) (w .which .given .1) (c .before .enum-told2 .given .1))
+    (c .further .ensures)
+
+returns-3 : tie.Need-returns-3
+unfolding secureMessagingOf
+returns-3 c =
+    let w = c .before .before .before in
+    rw (interindustry _ _ _ _ (w .before .before .range .ensures) (w .which .given .1) (c .enum-told3 .given .1))
+
+returns-4 : tie.Need-returns-4
+unfolding secureMessagingOf
+returns-4 c = rw (sym (c .before .before .range .ensures) ∙ c .enum-told4 .given .1)
+
+pub secure-messaging-spec : {M : Type 1} → statement M
+secure-messaging-spec =
+    tie.close
+    (tie.spec
+    (λ c κs. search needs)
+    (λ c. search needs)
+    (λ c. search needs)
+    (λ c κs. search needs)
+    (λ c. search needs)
+    (λ c κs. search needs)
+    (λ c. search needs)
+    (λ c. search needs)
+    returns
+    returns-2
+    returns-3
+    returns-4)

@@ -1,0 +1,4 @@
+pub mod Bits
+pub mod Ranges
+pub mod Readings
+pub mod Single

@@ -1,0 +1,53 @@
+// The class byte of a command: its range, secure messaging, chaining and channel, in the crate's and the standard reading.
+ghost use Rattle.class.specs.Class.{from-byte-is, into-inner-is};
+
+mod chain;
+mod channel;
+mod range;
+mod secure_messaging;
+
+pub use chain::Chain;
+pub use channel::Channel;
+pub use range::FromCla;
+pub use range::Interindustry;
+pub use range::Range;
+pub use secure_messaging::SecureMessaging;
+
+// A class byte. Only `from_byte`, `as_chained` and the constants make one.
+pub struct Class {
+    cla: u8,
+}
+
+// Whose rule is asked: the Rust's, or that of ISO/IEC 7816-4.
+pub enum Reading {
+    Crate,
+    Standard,
+}
+
+pub enum FromByte {
+    Class(Class),
+    Refused(u8),
+}
+
+pub const ZERO_CLA: Class = Class { cla: 0x00 };
+
+pub const NO_SM_CLA: Class = Class { cla: 0x80 };
+
+pub const SM_CLA: Class = Class { cla: 0x84 };
+
+impl Class {
+    pub fn from_byte(cla: u8) -> FromByte
+        ensures { λ r. ⌜ from-byte-is cla r ⌝ }
+    {
+        if cla == 0xFF {
+            return FromByte::Refused(3);
+        }
+        FromByte::Class(Class { cla })
+    }
+
+    pub fn into_inner(self) -> u8
+        ensures { λ r. ⌜ into-inner-is self r ⌝ }
+    {
+        self.cla
+    }
+}

@@ -1,0 +1,6 @@
+pub mod Lengths
+pub mod Parsing
+pub mod Rooms
+pub mod Readings
+pub mod Cases
+pub mod Single

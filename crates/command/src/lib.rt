@@ -1,0 +1,83 @@
+// Commands read: parsing in the crate's and the standard reading, the data part, the owned copy and its extension.
+ghost use mathlib.Core.Path.{_≡_};
+ghost use Prim.Native.Nat.{_≤_};
+ghost use lib.ListN.{length};
+ghost use Rattle.command.specs.Command.{parseBody, said, try-from-is, data-is};
+
+mod body;
+mod owned;
+
+use body::Lengths;
+use class::Class;
+use class::FromByte;
+use class::Reading;
+pub use owned::Command;
+pub use owned::Extended;
+pub use owned::Extending;
+pub use owned::Owned;
+
+// A command as numbers: its header, where its data start and how many bytes they are, its expected length, and whether its
+// lengths are extended.
+pub struct CommandView {
+    pub class: Class,
+    pub instruction: u8,
+    pub p1: u8,
+    pub p2: u8,
+    pub at: usize,
+    pub len: usize,
+    pub le: usize,
+    pub extended: bool,
+}
+
+pub enum Parsed {
+    View(CommandView),
+    Refused(u8),
+}
+
+// A command of at least four bytes and this class.
+fn parse_body(reading: Reading, apdu: &[u8], class: Class) -> Parsed
+    requires { ⌜ 4 ≤ length (now apdu) ⌝ }
+    ensures { λ r. ⌜ said r ≡ parseBody reading (now (apdu .entry)) class ⌝ }
+{
+    match body::parse_lengths(reading, &apdu[4..]) {
+        Lengths::Refused(k) => Parsed::Refused(k),
+        Lengths::Are(lengths) => Parsed::View(CommandView {
+            class,
+            instruction: apdu[1],
+            p1: apdu[2],
+            p2: apdu[3],
+            at: 4 + lengths.offset,
+            len: lengths.lc,
+            le: lengths.le,
+            extended: lengths.extended,
+        }),
+    }
+}
+
+impl CommandView {
+    pub fn try_from(reading: Reading, apdu: &[u8]) -> Parsed
+        ensures { λ r. ⌜ try-from-is reading (now (apdu .entry)) r ⌝ }
+    {
+        if apdu.len() < 4 {
+            return Parsed::Refused(1);
+        }
+        match Class::from_byte(apdu[0]) {
+            FromByte::Refused(k) => Parsed::Refused(k),
+            FromByte::Class(class) => parse_body(reading, apdu, class),
+        }
+    }
+}
+
+// The data of a command, as that part of its bytes; no bytes where it is refused.
+pub fn data<'a>(reading: Reading, apdu: &'a [u8]) -> &'a [u8]
+    ensures { λ r. ⌜ data-is reading (now (apdu .entry)) (now r) ⌝ }
+{
+    match CommandView::try_from(reading, apdu) {
+        Parsed::Refused(_) => &apdu[..0],
+        Parsed::View(view) => {
+            let at = view.at;
+            let end = at + view.len;
+            &apdu[at..end]
+        }
+    }
+}

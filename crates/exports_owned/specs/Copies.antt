@@ -1,0 +1,54 @@
+-- What the exported functions leave of the slices that a host lends. Document 01, "Command body" and "Numbers of refusal".
+use Prim.Native.Nat.{ℕ}
+use mathlib.Core.Path.{_≡_}
+use mathlib.Core.Bool.{true, false}
+use mathlib.Core.List.{List, [], _∷_}
+use lib.ListN.{length}
+use Rattle.basis.specs.Reply.{Reply, is, no, then, status}
+use Rattle.basis.specs.Part.{over}
+use Rattle.class.specs.declared.Reading.{Reading}
+use Rattle.class.specs.declared.Reading.the-variants.{Crate}
+use Rattle.command.specs.Command.{parse, dataIn}
+use Rattle.command.specs.Owned.{takenOf, ownedOf, copied, fitting as extending, heldAfter, extendedRoom}
+use Rattle.command.specs.declared.CommandView.{CommandView}
+use Rattle.command.specs.declared.owned.Command.{Command}
+use Rattle.tell.specs.Answers.{flagOf, fitting, written, Copied}
+use Rattle.exports_command.specs.Numbers.{readingNumbered}
+
+-- the promise of `gorvisclen_command_data`: the data, copied and counted
+abbrev pub DataCopied : ℕ → List ℕ → List ℕ → List ℕ → ℕ → List ℕ → List ℕ → Type 0
+DataCopied n s to out r to′ out′ = Copied (dataIn s (parse (readingNumbered n) s)) to out r to′ out′
+
+-- class, instruction, P1, P2, length of the data, expected length, extended: the data stand at the room's beginning
+unfoldable pub commandNumbers : Command → List ℕ
+commandNumbers c = c .class .cla ∷ c .instruction ∷ c .p1 ∷ c .p2 ∷ c .len ∷ c .le ∷ flagOf (c .extended) ∷ []
+
+-- an owned copy in a room of m bytes, its numbers told in a slice of n
+abbrev pub owning : Reading → List ℕ → ℕ → ℕ → Reply Command
+owning r s m n = fitting 7 n (then (parse r s) (ownedOf m))
+
+-- the promise of `gorvisclen_command_owned`
+pub record OwnedCopied (r : Reading) (s room out : List ℕ) (x : ℕ) (room′ out′ : List ℕ) : Type 0 where
+  pub reply : x ≡ status (owning r s (length room) (length out))
+  pub bytes : room′ ≡ copied (owning r s (length room) (length out)) (dataIn s (parse r s)) room
+  pub told : out′ ≡ written (then (owning r s (length room) (length out)) (λ c. is (commandNumbers c))) out
+
+-- a held command with so many bytes of data; its other numbers are replaced by an extension
+abbrev pub held : ℕ → Command
+held n =
+    record { class = record { cla = 0x00 }; instruction = 0; p1 = 0; p2 = 0; len = n; le = 0; extended = false }
+
+-- an extension by the command v with the data d, told also where the data do not fit
+pub record Extends (n : ℕ) (v : CommandView) (d room out : List ℕ) (x : ℕ) (room′ out′ : List ℕ) : Type 0 where
+  pub reply : x ≡ status (extending n (length d) (length room))
+  pub bytes : room′ ≡ extendedRoom (extending n (length d) (length room)) n d room
+  pub told : out′ ≡ over (commandNumbers (takenOf v (heldAfter (extending n (length d) (length room)) n) true)) out
+
+-- the promise of `gorvisclen_command_extend`, for what the reading x of s gives: a refusal changes nothing
+abbrev pub ExtendsBy : Reply CommandView → ℕ → List ℕ → List ℕ → List ℕ → ℕ → List ℕ → List ℕ → Type 0
+ExtendsBy (is v) n d room out x room′ out′ = Extends n v d room out x room′ out′
+ExtendsBy (no k) n d room out x room′ out′ = (x ≡ k) × (room′ ≡ room) × (out′ ≡ out)
+
+abbrev pub Extended : ℕ → List ℕ → List ℕ → List ℕ → ℕ → List ℕ → List ℕ → Type 0
+Extended n s room out x room′ out′ =
+    ExtendsBy (fitting 7 (length out) (parse Crate s)) n (dataIn s (parse Crate s)) room out x room′ out′

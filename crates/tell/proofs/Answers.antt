@@ -1,0 +1,36 @@
+-- Laws of how an exported function answers. Assumes nothing.
+use Prim.Native.Nat.{ℕ, _≤_, _<_}
+use mathlib.Core.Path.{_≡_, refl}
+use mathlib.Core.Bool.{Bool, true, false, cond}
+use mathlib.Core.List.{List}
+use lib.Dec.{ltb}
+use lib.ListN.{length}
+use borrow.Author.Tests.{lt-ltb, le-ltb}
+use Rattle.basis.specs.Reply.{is, no}
+use Rattle.basis.specs.Part.{over}
+use Rattle.tell.specs.Answers.{atMost16, short, refuse-is, Answers}
+
+-- a refusal, for a slice too short or not
+pub said : {A : Type 0} (b : Bool) (k : ℕ) → cond b (short {A = A} (no k)) (no k) ≡ no (cond b (atMost16 k) k)
+said true k = refl
+said false k = refl
+
+-- a refusal answers
+pub answers-no : (m k : ℕ) (out : List ℕ) (r : ℕ) → refuse-is k (length out) m r → Answers m (no k) out r out
+answers-no m k out r e = record { reply = rw said e; told = rw said }
+
+-- numbers for which the slice is too short; numbers that fit
+module _ (m : ℕ) (vs out : List ℕ) where
+  pub answers-short : length out < m → Answers m (is vs) out 16 out
+  answers-short h = record { reply = rw (lt-ltb _ _ h); told = rw (lt-ltb _ _ h) }
+
+  pub answers-is : (after : List ℕ) → m ≤ length out → after ≡ over vs out → Answers m (is vs) out 0 after
+  answers-is after h e = record { reply = rw (le-ltb _ _ h); told = rw (le-ltb _ _ h) e }
+
+-- what was told where the slice was long enough
+module _ (vs out : List ℕ) (r : ℕ) (after : List ℕ) (a : Answers (length vs) (is vs) out r after) (h : length vs ≤ length out) where
+  pub told-done : r ≡ 0
+  told-done = rw (le-ltb _ _ h) at (a .reply)
+
+  pub told-all : after ≡ over vs out
+  told-all = rw (le-ltb _ _ h) at (a .told)

@@ -1,0 +1,28 @@
+-- One reply and one content of the lent slice: any two that a promise allows are equal. Assumes nothing.
+use Prim.Native.Nat.{ℕ}
+use mathlib.Core.Path.{_≡_, _∙⁻¹_}
+use mathlib.Core.Bool.{Bool}
+use mathlib.Core.List.{List}
+use lib.ListN.{length}
+use Rattle.basis.specs.Reply.{Reply, is}
+use Rattle.tell.specs.Answers.{Answers, Copied, refuse-is, flag-is}
+
+-- two answers with the m numbers of one reply
+abbrev pub One : ℕ → Reply (List ℕ) → Type 0
+One m x = (out : List ℕ) (r s : ℕ) (a b : List ℕ) → Answers m x out r a → Answers m x out s b → (r ≡ s) × (a ≡ b)
+
+pub one : (m : ℕ) (x : Reply (List ℕ)) → One m x
+one m x out r s a b p q = (p .reply ∙⁻¹ q .reply, p .told ∙⁻¹ q .told)
+
+pub tell : (numbers : List ℕ) → One (length numbers) (is numbers)
+tell numbers = one (length numbers) (is numbers)
+
+pub copy : (d to out : List ℕ) (r s : ℕ) (a b x y : List ℕ) → Copied d to out r a x → Copied d to out s b y
+    → (r ≡ s) × (a ≡ b) × (x ≡ y)
+copy d to out r s a b x y p q = (p .reply ∙⁻¹ q .reply, p .bytes ∙⁻¹ q .bytes, p .told ∙⁻¹ q .told)
+
+pub refuse : (k n m r s : ℕ) → refuse-is k n m r → refuse-is k n m s → r ≡ s
+refuse k n m r s p q = p ∙⁻¹ q
+
+pub flag : (b : Bool) (r s : ℕ) → flag-is b r → flag-is b s → r ≡ s
+flag b r s p q = p ∙⁻¹ q

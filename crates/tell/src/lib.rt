@@ -1,0 +1,54 @@
+// How the exported functions answer a host: a status, and numbers at the front of a lent slice.
+ghost use Rattle.basis.specs.Reply.{is};
+ghost use Rattle.tell.specs.Answers.{Answers, Copied, refuse-is, flag-is};
+ghost use lib.ListN.{length};
+
+// Writes numbers to the front of a lent slice: 0, or 16 where it is too short.
+pub fn tell(numbers: &[u64], out: &mut [u64]) -> u8
+    ensures { λ r. ⌜ Answers (length (now (numbers .entry))) (is (now (numbers .entry))) (now (out .entry)) r (now (out .exit)) ⌝ }
+{
+    if out.len() < numbers.len() {
+        return 16;
+    }
+    let mut i = 0;
+    while i < numbers.len() {
+        out[i] = numbers[i];
+        i += 1;
+    }
+    0
+}
+
+// The status of refusal k, with a slice of so many numbers where so many are wanted.
+pub fn refuse(k: u8, given: usize, wanted: usize) -> u8
+    ensures { λ r. ⌜ refuse-is k given wanted r ⌝ }
+{
+    if given < wanted {
+        if 16 < k {
+            return 16;
+        }
+        return k;
+    }
+    k
+}
+
+// 1 for true and 0 for false.
+pub fn flag(b: bool) -> u64
+    ensures { λ r. ⌜ flag-is b r ⌝ }
+{
+    if b { 1 } else { 0 }
+}
+
+// Copies bytes to the front of a lent slice, and tells how many.
+pub fn copy(part: &[u8], to: &mut [u8], out: &mut [u64]) -> u8
+    ensures { λ r. ⌜ Copied (now (part .entry)) (now (to .entry)) (now (out .entry)) r (now (to .exit)) (now (out .exit)) ⌝ }
+{
+    if out.len() < 1 {
+        return 16;
+    }
+    if to.len() < part.len() {
+        return 16;
+    }
+    let n = bytes::copy(part, to);
+    out[0] = n as u64;
+    0
+}

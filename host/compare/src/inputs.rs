@@ -1,0 +1,55 @@
+//! The inputs that are not counted through: a small deterministic generator (splitmix64).
+
+pub struct Inputs(u64);
+
+impl Inputs {
+    pub fn new(seed: u64) -> Self {
+        Inputs(seed)
+    }
+
+    pub fn number(&mut self) -> u64 {
+        self.0 = self.0.wrapping_add(0x9E37_79B9_7F4A_7C15);
+        let mut z = self.0;
+        z = (z ^ (z >> 30)).wrapping_mul(0xBF58_476D_1CE4_E5B9);
+        z = (z ^ (z >> 27)).wrapping_mul(0x94D0_49BB_1331_11EB);
+        z ^ (z >> 31)
+    }
+
+    /// A number below `end`, which is not 0.
+    pub fn below(&mut self, end: usize) -> usize {
+        (self.number() % end as u64) as usize
+    }
+
+    pub fn bytes(&mut self, len: usize) -> Vec<u8> {
+        (0..len).map(|_| self.number() as u8).collect()
+    }
+
+    /// A copy with one byte changed; of no bytes, a copy.
+    pub fn one_byte_off(&mut self, bytes: &[u8]) -> Vec<u8> {
+        let mut copy = bytes.to_vec();
+        if !copy.is_empty() {
+            let at = self.below(copy.len());
+            copy[at] ^= 1 + self.below(255) as u8;
+        }
+        copy
+    }
+
+    /// A copy with one to three of: a byte changed, a byte taken out, a byte put in.
+    pub fn damaged(&mut self, bytes: &[u8]) -> Vec<u8> {
+        let mut copy = bytes.to_vec();
+        for _ in 0..1 + self.below(3) {
+            match self.below(3) {
+                0 => copy = self.one_byte_off(&copy),
+                1 if !copy.is_empty() => {
+                    let at = self.below(copy.len());
+                    copy.remove(at);
+                }
+                _ => {
+                    let at = self.below(copy.len() + 1);
+                    copy.insert(at, self.number() as u8);
+                }
+            }
+        }
+        copy
+    }
+}

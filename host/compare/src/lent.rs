@@ -1,0 +1,143 @@
+//! Buffers that are lent to a call, and what a call leaves behind.
+
+use std::fmt;
+
+use gorvisclen::{Refused, Reply};
+
+/// How many elements stand before and after the part that is lent.
+const MARGIN: usize = 4;
+
+/// How many bytes are shown of a longer row of them: at its beginning, and at its end.
+const SHOWN: (usize, usize) = (80, 16);
+
+/// A buffer to lend: a part of a longer one that is filled with a pattern, so that a write outside of the part is seen.
+#[derive(Clone, PartialEq)]
+pub struct Lent<T> {
+    whole: Vec<T>,
+}
+
+impl<T: Copy> Lent<T> {
+    fn filled(len: usize, pattern: impl Fn(usize) -> T) -> Self {
+        Lent {
+            whole: (0..len + 2 * MARGIN).map(pattern).collect(),
+        }
+    }
+
+    /// The part that is lent.
+    pub fn part(&mut self) -> &mut [T] {
+        let end = self.whole.len() - MARGIN;
+        &mut self.whole[MARGIN..end]
+    }
+
+    /// The element of the part at `i`.
+    pub fn at(&self, i: usize) -> T {
+        self.whole[MARGIN + i]
+    }
+}
+
+/// Numbers to lend, none of which any operation writes.
+pub fn numbers(len: usize) -> Lent<u64> {
+    Lent::filled(len, |i| 70_000 + i as u64)
+}
+
+/// Bytes to lend.
+pub fn bytes(len: usize) -> Lent<u8> {
+    Lent::filled(len, |i| 0xA5 ^ (i as u8).wrapping_mul(29))
+}
+
+/// What a call leaves: its reply, and everything that was lent, at the end.
+#[derive(Clone, PartialEq)]
+pub struct Outcome {
+    pub reply: Reply,
+    pub out: Lent<u64>,
+    pub to: Lent<u8>,
+    /// What was lent to be read.
+    pub read: Vec<u8>,
+}
+
+impl Outcome {
+    pub fn new(reply: Reply, out: Lent<u64>, to: Lent<u8>) -> Self {
+        let read = Vec::new();
+        Outcome {
+            reply,
+            out,
+            to,
+            read,
+        }
+    }
+
+    /// With what else was lent, to be read: as it is now.
+    pub fn reading(mut self, read: &[&[u8]]) -> Self {
+        self.read = read.concat();
+        self
+    }
+
+    /// Where it first differs from another outcome of the same call. Places count from the beginning of what was lent.
+    pub fn differs(&self, other: &Outcome) -> String {
+        let place = |name: &str, at: usize| format!("{name} at {}", at as isize - MARGIN as isize);
+        if self.reply != other.reply {
+            "the reply".to_string()
+        } else if let Some(at) = differ(&self.out.whole, &other.out.whole) {
+            place("out", at)
+        } else if let Some(at) = differ(&self.to.whole, &other.to.whole) {
+            place("to", at)
+        } else {
+            "what was lent to be read".to_string()
+        }
+    }
+}
+
+/// The first place at which two rows of the same length differ.
+fn differ<T: PartialEq>(one: &[T], other: &[T]) -> Option<usize> {
+    one.iter().zip(other).position(|(a, b)| a != b)
+}
+
+/// What a call leaves that writes to `out` only.
+pub fn left(mut out: Lent<u64>, call: impl FnOnce(&mut [u64]) -> Reply) -> Outcome {
+    let reply = call(out.part());
+    Outcome::new(reply, out, bytes(0))
+}
+
+/// What such a call has to leave: a refusal, or 16 where `out` is too short for the numbers, or the numbers.
+pub fn demanded<const N: usize>(numbers: Result<[u64; N], u8>, out: Lent<u64>) -> Outcome {
+    left(out, |out| {
+        let numbers = or_short(numbers, out.len() >= N)?;
+        out[..N].copy_from_slice(&numbers);
+        Ok(())
+    })
+}
+
+/// An answer that is refused with 16 too, where what was lent for it is too short: the smaller number wins.
+pub fn or_short<T>(answer: Result<T, u8>, long_enough: bool) -> Result<T, Refused> {
+    match answer {
+        Err(number) if number < 16 || long_enough => Err(Refused(number)),
+        Ok(answer) if long_enough => Ok(answer),
+        _ => Err(Refused(16)),
+    }
+}
+
+/// The bytes in hex, of many only their beginning and end; `-` for none.
+pub fn hex(bytes: &[u8]) -> String {
+    let digits = |bytes: &[u8]| -> String { bytes.iter().map(|b| format!("{b:02X}")).collect() };
+    let len = bytes.len();
+    match len {
+        0 => "-".to_string(),
+        _ if len <= SHOWN.0 + SHOWN.1 => digits(bytes),
+        _ => format!(
+            "{}..{} ({len} bytes)",
+            digits(&bytes[..SHOWN.0]),
+            digits(&bytes[len - SHOWN.1..])
+        ),
+    }
+}
+
+impl fmt::Display for Outcome {
+    fn fmt(&self, f: &mut fmt::Formatter<'_>) -> fmt::Result {
+        match self.reply {
+            Ok(()) => write!(f, "done")?,
+            Err(Refused(n)) => write!(f, "refused {n}")?,
+        }
+        write!(f, "; out {:?}", self.out.whole)?;
+        write!(f, "; to {}; read {}", hex(&self.to.whole), hex(&self.read))
+    }
+}

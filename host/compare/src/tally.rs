@@ -1,0 +1,100 @@
+//! Counts of compared cases by operation and by reply, and the mismatches.
+
+use std::collections::BTreeMap;
+use std::process;
+
+use gorvisclen::{Refused, Reply};
+
+use crate::lent::Outcome;
+
+/// The program stops at this many mismatches.
+const MOST: u64 = 20;
+
+/// What stands in the name of an operation that the Rust does not have, and what it is held to instead.
+const HELD_TO: [(&str, &str); 2] = [("held to a table", "table"), ("held to a rule", "rule")];
+
+/// The cases of one name: how many there are, and how many of them demand each reply.
+#[derive(Default)]
+struct Count {
+    cases: u64,
+    replies: BTreeMap<u8, u64>,
+}
+
+#[derive(Default)]
+pub struct Tally {
+    counts: BTreeMap<&'static str, Count>,
+    mismatches: u64,
+}
+
+/// The number that an exported function replies.
+fn number_of(reply: Reply) -> u8 {
+    reply.map_or_else(|Refused(n)| n, |()| 0)
+}
+
+impl Count {
+    /// The demanded replies in words: nothing, if all are done.
+    fn replies(&self) -> String {
+        if self.replies.keys().all(|&reply| reply == 0) {
+            return String::new();
+        }
+        let words = self.replies.iter().map(|(reply, count)| match reply {
+            0 => format!("done {count}"),
+            n => format!("refused {n}: {count}"),
+        });
+        format!("; {}", words.collect::<Vec<_>>().join(", "))
+    }
+}
+
+impl Tally {
+    /// Compares one call. Its reply and all that was lent count for `operation`; where it is done, the numbers that it
+    /// wrote count each for the operation that `numbers` names.
+    pub fn compare(
+        &mut self,
+        operation: &'static str,
+        numbers: &[&'static str],
+        input: impl Fn() -> String,
+        demanded: &Outcome,
+        ours: &Outcome,
+    ) {
+        let count = self.counts.entry(operation).or_default();
+        count.cases += 1;
+        *count.replies.entry(number_of(demanded.reply)).or_default() += 1;
+        let both_done = demanded.reply.is_ok() && ours.reply.is_ok();
+        if both_done {
+            for name in numbers {
+                self.counts.entry(name).or_default().cases += 1;
+            }
+        }
+        if demanded == ours {
+            return;
+        }
+        let differs = |&i: &usize| both_done && demanded.out.at(i) != ours.out.at(i);
+        let number = (0..numbers.len()).find(differs).map(|i| numbers[i]);
+        let name = number.unwrap_or(operation);
+        let held_to = HELD_TO.iter().find(|(words, _)| name.contains(words));
+        let theirs = held_to.map_or("rust", |(_, to)| to);
+        println!("mismatch: {name}, by a call of {operation}");
+        println!("  input: {}", input());
+        println!("  first: {}", demanded.differs(ours));
+        println!("  {theirs:5}: {demanded}");
+        println!("  ours : {ours}");
+        self.mismatches += 1;
+        if self.mismatches == MOST {
+            println!("stopped after {MOST} mismatches");
+            self.finish();
+        }
+    }
+
+    /// Prints the counts and ends the program.
+    pub fn finish(&self) -> ! {
+        for (name, count) in &self.counts {
+            println!("compared {:>8}  {name}{}", count.cases, count.replies());
+        }
+        let total: u64 = self.counts.values().map(|count| count.cases).sum();
+        println!(
+            "compared {total:>8}  in all; mismatches: {}",
+            self.mismatches
+        );
+        process::exit(if self.mismatches == 0 { 0 } else { 1 })
+    }
+}

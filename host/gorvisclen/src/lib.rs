@@ -1,0 +1,277 @@
+//! The functions that the proved library exports, each as a safe Rust function of the same name without its prefix.
+//!
+//! Every function answers on every input: `Ok`, or `Err` with the refusal's number. A refusal changes nothing that was
+//! lent, save for 18 (see `command_extend`). What lies behind the numbers or bytes written stays.
+//!
+//! | No. | Given exactly when |
+//! |---|---|
+//! | 1 | the command is under 4 bytes |
+//! | 2 | the command's data are longer than the room for an owned copy |
+//! | 3 | the class byte is 0xFF |
+//! | 4 | the first byte behind the command's header is not zero, and no short case fits |
+//! | 5 | the first byte behind the command's header is zero, and no case fits |
+//! | 6 to 10 | the AID is empty; over 16 bytes; truncated above its length; national under 5; international under 5 |
+//! | 16 | what was lent for the answer is too short |
+//! | 18 | the held data and the new data exceed the room |
+//! | 21 | standard reading: the command has an extended Lc of zero and an Le |
+//!
+//! Where several would be given, the smallest is; but 2 comes behind 3, 4 and 5.
+
+/// A refusal's number.
+#[derive(Clone, Copy, Debug, PartialEq, Eq)]
+pub struct Refused(pub u8);
+
+pub type Reply = Result<(), Refused>;
+
+/// The number that stands for "there is none", in the place of a channel or a part's length.
+pub const NONE: u64 = 256;
+
+/// The reading of a command that the Rust crate has.
+pub const CRATE_READING: u8 = 0;
+
+/// The reading of a command that the standard has; every other number but 0 names it too.
+pub const STANDARD_READING: u8 = 1;
+
+/// How many numbers `class` and `class_as_chained` write.
+pub const CLASS_NUMBERS: usize = 11;
+
+/// How many numbers `class_constants` writes.
+pub const CLASS_CONSTANTS: usize = 3;
+
+/// How many numbers `aid` and `aid_whole` write.
+pub const AID_NUMBERS: usize = 9;
+
+/// How many numbers `command` writes.
+pub const COMMAND_NUMBERS: usize = 8;
+
+/// How many numbers `command_owned` and `command_extend` write.
+pub const OWNED_NUMBERS: usize = 7;
+
+// A slice passes as its pointer and its length.
+extern "C" {
+    fn gorvisclen_class(cla: u8, out: *mut u64, out_len: usize) -> u8;
+    fn gorvisclen_class_as_chained(cla: u8, out: *mut u64, out_len: usize) -> u8;
+    fn gorvisclen_range(cla: u8, out: *mut u64, out_len: usize) -> u8;
+    fn gorvisclen_class_constants(out: *mut u64, out_len: usize) -> u8;
+    fn gorvisclen_aid(
+        name: *const u8,
+        name_len: usize,
+        truncated_len: usize,
+        out: *mut u64,
+        out_len: usize,
+    ) -> u8;
+    fn gorvisclen_aid_whole(name: *const u8, name_len: usize, out: *mut u64, out_len: usize) -> u8;
+    fn gorvisclen_aid_part(
+        name: *const u8,
+        name_len: usize,
+        truncated_len: usize,
+        part: u8,
+        to: *mut u8,
+        to_len: usize,
+        out: *mut u64,
+        out_len: usize,
+    ) -> u8;
+    fn gorvisclen_aid_matches(
+        name: *const u8,
+        name_len: usize,
+        truncated_len: usize,
+        asked: *const u8,
+        asked_len: usize,
+        out: *mut u64,
+        out_len: usize,
+    ) -> u8;
+    fn gorvisclen_command(
+        reading: u8,
+        apdu: *const u8,
+        apdu_len: usize,
+        out: *mut u64,
+        out_len: usize,
+    ) -> u8;
+    fn gorvisclen_command_data(
+        reading: u8,
+        apdu: *const u8,
+        apdu_len: usize,
+        to: *mut u8,
+        to_len: usize,
+        out: *mut u64,
+        out_len: usize,
+    ) -> u8;
+    fn gorvisclen_command_owned(
+        reading: u8,
+        apdu: *const u8,
+        apdu_len: usize,
+        room: *mut u8,
+        room_len: usize,
+        out: *mut u64,
+        out_len: usize,
+    ) -> u8;
+    fn gorvisclen_command_extend(
+        len: usize,
+        room: *mut u8,
+        room_len: usize,
+        apdu: *const u8,
+        apdu_len: usize,
+        out: *mut u64,
+        out_len: usize,
+    ) -> u8;
+}
+
+// In each function below: the pointers and lengths are those of slices that are borrowed for the call, which keeps none of them.
+
+#[inline]
+fn reply(number: u8) -> Reply {
+    match number {
+        0 => Ok(()),
+        n => Err(Refused(n)),
+    }
+}
+
+/// The class of a byte, in 11 numbers: the byte; its range (0 first interindustry, 1 further, 2 reserved, 3 proprietary);
+/// secure messaging in the crate's reading and in the standard's (0 none, 1 proprietary, 2 standard, 3 authenticated,
+/// 4 unknown); whether the one and the other is none; the chain (0 last or only, 1 not the last, 2 unknown) and its two
+/// tests; the channel in the crate's reading and in the standard's (or `NONE`).
+pub fn class(cla: u8, out: &mut [u64]) -> Reply {
+    reply(unsafe { gorvisclen_class(cla, out.as_mut_ptr(), out.len()) })
+}
+
+/// The same 11 numbers of the class with its chaining bit set.
+pub fn class_as_chained(cla: u8, out: &mut [u64]) -> Reply {
+    reply(unsafe { gorvisclen_class_as_chained(cla, out.as_mut_ptr(), out.len()) })
+}
+
+/// The range of a class byte, as one number.
+pub fn range(cla: u8, out: &mut [u64]) -> Reply {
+    reply(unsafe { gorvisclen_range(cla, out.as_mut_ptr(), out.len()) })
+}
+
+/// The bytes of the three constants: ZERO_CLA, NO_SM_CLA, SM_CLA.
+pub fn class_constants(out: &mut [u64]) -> Reply {
+    reply(unsafe { gorvisclen_class_constants(out.as_mut_ptr(), out.len()) })
+}
+
+/// The AID of a name, in 9 numbers: its length; its truncated length; its category (0 international, 1 national,
+/// 2 standard, 3 proprietary, 4 other) and the tests for the first four; the lengths of RID and PIX (or `NONE`).
+pub fn aid(name: &[u8], truncated_len: usize, out: &mut [u64]) -> Reply {
+    reply(unsafe {
+        gorvisclen_aid(
+            name.as_ptr(),
+            name.len(),
+            truncated_len,
+            out.as_mut_ptr(),
+            out.len(),
+        )
+    })
+}
+
+/// The same 9 numbers of an AID that is not to be truncated.
+pub fn aid_whole(name: &[u8], out: &mut [u64]) -> Reply {
+    reply(unsafe { gorvisclen_aid_whole(name.as_ptr(), name.len(), out.as_mut_ptr(), out.len()) })
+}
+
+/// Copies a part of an AID to the front of `to`: 0 all its bytes, 1 the truncated part, 2 the RID, 3 and above the PIX.
+/// Writes one number: the part's length (or `NONE`, and nothing is copied).
+pub fn aid_part(
+    name: &[u8],
+    truncated_len: usize,
+    part: u8,
+    to: &mut [u8],
+    out: &mut [u64],
+) -> Reply {
+    reply(unsafe {
+        gorvisclen_aid_part(
+            name.as_ptr(),
+            name.len(),
+            truncated_len,
+            part,
+            to.as_mut_ptr(),
+            to.len(),
+            out.as_mut_ptr(),
+            out.len(),
+        )
+    })
+}
+
+/// Whether an AID is selected by the name asked for, as one number, 0 or 1.
+pub fn aid_matches(name: &[u8], truncated_len: usize, asked: &[u8], out: &mut [u64]) -> Reply {
+    reply(unsafe {
+        gorvisclen_aid_matches(
+            name.as_ptr(),
+            name.len(),
+            truncated_len,
+            asked.as_ptr(),
+            asked.len(),
+            out.as_mut_ptr(),
+            out.len(),
+        )
+    })
+}
+
+/// A command parsed, in 8 numbers: class byte; instruction byte; P1; P2; the place of its data in `apdu` (where there are
+/// none: 4, or 7 behind an extended Lc of zero); their length; the expected length; whether it is extended, 0 or 1.
+/// Refusals: 1, 3, 4, 5, 16, and 21 in the standard reading.
+#[inline]
+pub fn command(reading: u8, apdu: &[u8], out: &mut [u64]) -> Reply {
+    reply(unsafe {
+        gorvisclen_command(
+            reading,
+            apdu.as_ptr(),
+            apdu.len(),
+            out.as_mut_ptr(),
+            out.len(),
+        )
+    })
+}
+
+/// Copies the data of a command to the front of `to`; a command that is refused has none. Writes one number: their length.
+/// Refusal: 16.
+pub fn command_data(reading: u8, apdu: &[u8], to: &mut [u8], out: &mut [u64]) -> Reply {
+    reply(unsafe {
+        gorvisclen_command_data(
+            reading,
+            apdu.as_ptr(),
+            apdu.len(),
+            to.as_mut_ptr(),
+            to.len(),
+            out.as_mut_ptr(),
+            out.len(),
+        )
+    })
+}
+
+/// An owned copy of a command: its data stand at the beginning of `room`, the rest in 7 numbers: class byte; instruction
+/// byte; P1; P2; the length of the data; the expected length; whether it is extended, 0 or 1.
+/// Refusals: 1, 3, 4, 5, 2, 16, and 21 in the standard reading.
+pub fn command_owned(reading: u8, apdu: &[u8], room: &mut [u8], out: &mut [u64]) -> Reply {
+    reply(unsafe {
+        gorvisclen_command_owned(
+            reading,
+            apdu.as_ptr(),
+            apdu.len(),
+            room.as_mut_ptr(),
+            room.len(),
+            out.as_mut_ptr(),
+            out.len(),
+        )
+    })
+}
+
+/// Extends an owned command, which holds `len` bytes of data at the beginning of `room`, by the command `apdu`, which is
+/// parsed in the crate's reading. The new data follow the held ones in `room`; the owned command is now, in the 7 numbers of
+/// `command_owned`: header and expected length those of `apdu`; length `len` and the new data's; extended 1.
+/// Refusals: 1, 3, 4, 5, 16, 18.
+///
+/// **With 18 the numbers are written too**: header and expected length are those of `apdu` and extended is 1, but the length is
+/// `len` and `room` is as it was. It is given exactly where the held and the new length exceed that of `room`, for every `len`.
+pub fn command_extend(len: usize, room: &mut [u8], apdu: &[u8], out: &mut [u64]) -> Reply {
+    reply(unsafe {
+        gorvisclen_command_extend(
+            len,
+            room.as_mut_ptr(),
+            room.len(),
+            apdu.as_ptr(),
+            apdu.len(),
+            out.as_mut_ptr(),
+            out.len(),
+        )
+    })
+}

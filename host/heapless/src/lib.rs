@@ -1,0 +1,28 @@
+//! A stand-in for heapless 0.9 with only what the original Rust uses. Each item's comment says which behaviour of the
+//! real one it has. The elements have to be `Copy + Default` here, which spares the real one's uninitialised memory.
+#![no_std]
+
+pub mod vec;
+
+pub use vec::Vec;
+
+/// As in heapless: the error of an operation that would exceed the capacity, with nothing in it.
+#[derive(Clone, Copy, Debug, PartialEq, Eq)]
+pub struct CapacityError;
+
+/// As in heapless: the integer type that a vector keeps its length in; `usize` is its default and the only one here.
+pub trait LenType: Copy {
+    const ZERO: Self;
+    fn from_usize(n: usize) -> Self;
+    fn into_usize(self) -> usize;
+}
+
+impl LenType for usize {
+    const ZERO: Self = 0;
+    fn from_usize(n: usize) -> Self {
+        n
+    }
+    fn into_usize(self) -> usize {
+        self
+    }
+}
