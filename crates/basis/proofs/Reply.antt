@@ -1,6 +1,6 @@
 -- Laws of replies. Assumes nothing.
 use Prim.Native.Nat.{ℕ}
-use mathlib.Core.Path.{_≡_, refl, subst}
+use mathlib.Core.Path.{_≡_, refl, sym, ap, _∙_, subst}
 use mathlib.Core.Bool.{Bool, true, false, cond}
 use native.Mathlib.Omega.{arith}
 use Rattle.basis.specs.Reply.{Reply, is, no, then}
@@ -8,6 +8,10 @@ use Rattle.basis.specs.Reply.{Reply, is, no, then}
 -- a refusal is no value
 pub no-is : {A : Type 0} (k : ℕ) (a : A) → no k ≡ is a → ⊥
 no-is k a e = let z : _≡_ {A = ℕ} 0 1 = cc in omega arith
+
+-- answers that have a way back from what is said of them are told apart by it
+pub apart : {A B : Type 0} (said : A → B) (back : B → A) → ((x : A) → back (said x) ≡ x) → (x y : A) → said x ≡ said y → x ≡ y
+apart said back h x y e = sym (h x) ∙ ap back e ∙ h y
 
 -- what holds of whatever a reply gives
 abbrev pub All : {A : Type 0} → (A → Type 0) → Reply A → Type 0
@@ -29,3 +33,12 @@ module _ {A : Type 0} (P : A → Type 0) where
   pub all-every : (x : Reply A) → ((a : A) → P a) → All P x
   all-every (is a) h = h a
   all-every (no k) h = tt
+
+  pub all-weaken : (Q : A → Type 0) (x : Reply A) → ((a : A) → Q a → P a) → All Q x → All P x
+  all-weaken Q (is a) f h = f a h
+  all-weaken Q (no k) f h = tt
+
+  -- two ways to go on that agree on whatever the reply gives
+  pub then-same : {B : Type 0} (x : Reply A) (f g : A → Reply B) → All P x → ((a : A) → P a → f a ≡ g a) → then x f ≡ then x g
+  then-same (is a) f g h e = e a h
+  then-same (no k) f g h e = refl

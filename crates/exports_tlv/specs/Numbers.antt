@@ -1,0 +1,39 @@
+-- The numbers of a tag, a length and an object, in the order in which they are handed out, and a value's copy. Document 01, "BER
+-- records".
+use Prim.Native.Nat.{ℕ}
+use mathlib.Core.Path.{_≡_}
+use mathlib.Core.Bool.{cond}
+use mathlib.Core.List.{List, [], _∷_}
+use lib.Dec.{eqb}
+use Rattle.basis.specs.Reply.{Reply, is, then}
+use Rattle.tell.specs.Answers.{Copied}
+use Rattle.tlv.specs.Tag.{tagOf}
+use Rattle.tlv.specs.Len.{lenOf}
+use Rattle.tlv.specs.Object.{objectOf}
+use Rattle.tlv.specs.Lookup.{lookup, valueIn}
+use Rattle.tlv.specs.declared.Reading.{Reading}
+use Rattle.tlv.specs.declared.Reading.the-variants.{Crate, Standard}
+
+-- the reading by number: 0 the crate's, any other the standard one
+unfoldable pub readingNumbered : ℕ → Reading
+readingNumbered n = cond (eqb n 0) Crate Standard
+
+-- a tag and how many bytes it takes
+unfoldable pub ofTag : ℕ → List ℕ → Reply (List ℕ)
+ofTag n s = then (tagOf (readingNumbered n) s) (λ t. is (t .number ∷ t .size ∷ []))
+
+-- a length and how many bytes it takes
+unfoldable pub ofLen : ℕ → List ℕ → Reply (List ℕ)
+ofLen n s = then (lenOf (readingNumbered n) s) (λ l. is (l .number ∷ l .size ∷ []))
+
+-- an object's tag, the place of its value, and the value's length
+unfoldable pub ofObject : ℕ → List ℕ → Reply (List ℕ)
+ofObject n s = then (objectOf (readingNumbered n) s) (λ o. is (o .tag ∷ o .at ∷ o .len ∷ []))
+
+-- the promise of `reading_numbered`
+abbrev pub reading-is : ℕ → Reading → Type 0
+reading-is n r = r ≡ readingNumbered n
+
+-- the promise of `gorvisclen_value`: the value found, copied and counted; no bytes where there is none
+abbrev pub ValueCopied : ℕ → List ℕ → List ℕ → List ℕ → List ℕ → ℕ → List ℕ → List ℕ → Type 0
+ValueCopied n s path to out r to′ out′ = Copied (valueIn s (lookup (readingNumbered n) s path)) to out r to′ out′

@@ -1,0 +1,105 @@
+-- What was read lies within the bytes that it was read in. Assumes nothing.
+use Prim.Native.Nat.{ℕ, zero, suc, _+_, _-_, _%_, _≤_, _<_}
+use mathlib.Core.Path.{_≡_, refl}
+use mathlib.Core.Bool.{Bool, false}
+use mathlib.Core.List.{List, [], _∷_}
+use native.Mathlib.Omega.{arith}
+use lib.Dec.{ltb, leb, eqb}
+use lib.ListN.{length, getD, drop, length-drop, length-take}
+use borrow.Author.Tests.{leb-true, ltb-false}
+use Rattle.basis.specs.Reply.{Reply, is, no}
+use Rattle.basis.proofs.Reply.{All, all-cond, all-then, all-weaken}
+use Rattle.tlv.specs.Tag.{Tag, sizeBy, thirdBy, threeBytes, longTag, tagOf}
+use Rattle.tlv.specs.Len.{Len, lenTo82, lenOf}
+use Rattle.tlv.specs.Object.{Object, sizeOf, objectIn, objectOf}
+use Rattle.tlv.specs.Lookup.{Span, part, whole, seekIn, seek, follow, lookup}
+use Rattle.tlv.specs.declared.Reading.{Reading}
+use Rattle.tlv.specs.declared.Reading.the-variants.{Crate, Standard}
+
+-- so many bytes of m, and not none
+abbrev pub Some : ℕ → ℕ → Type 0
+Some m n = (1 ≤ n) × (n ≤ m)
+
+abbrev pub Tagged : ℕ → Tag → Type 0
+Tagged m t = Some m (t .size)
+
+abbrev pub Sized : ℕ → Len → Type 0
+Sized m l = Some m (l .size)
+
+-- an object has a byte, and ends within m bytes
+abbrev pub Ends : ℕ → Object → Type 0
+Ends m o = (1 ≤ o .at) × (sizeOf o ≤ m)
+
+-- a part that starts at place a or behind it, and ends at place m or before it
+abbrev pub Lies : ℕ → ℕ → Span → Type 0
+Lies a m p = (a ≤ p .at) × (p .at + p .len ≤ m)
+
+pub tag-within : (r : Reading) (s : List ℕ) → All (Tagged (length s)) (tagOf r s)
+unfolding tagOf longTag threeBytes
+tag-within r s =
+    let T = Tagged (length s) in
+    all-cond T (ltb (length s) 1) _ _ (λ _. tt)
+    (λ h. all-cond T (eqb (getD s 0 0 % 32) 31) _ _
+    (λ _. all-cond T (ltb (length s) 2) _ _ (λ _. tt)
+    (λ g. all-cond T (eqb (sizeBy r (getD s 1 0)) 0) _ _ (λ _. tt)
+    (λ _. all-cond T (eqb (sizeBy r (getD s 1 0)) 2) _ _ (λ _. omega (arith, ltb-false (length s) 2 g))
+    (λ _. all-cond T (ltb (length s) 3) _ _ (λ _. tt)
+    (λ f. all-cond T (thirdBy r (getD s 2 0)) _ _ (λ _. omega (arith, ltb-false (length s) 3 f)) (λ _. tt))))))
+    (λ _. omega (arith, ltb-false (length s) 1 h)))
+
+len-82-within : (s : List ℕ) → All (Sized (length s)) (lenTo82 s)
+unfolding lenTo82
+len-82-within s =
+    let L = Sized (length s) in
+    all-cond L (ltb (length s) 1) _ _ (λ _. tt)
+    (λ h. all-cond L (leb (getD s 0 0) 0x7F) _ _ (λ _. omega (arith, ltb-false (length s) 1 h))
+    (λ _. all-cond L (eqb (getD s 0 0) 0x81) _ _
+    (λ _. all-cond L (ltb (length s) 2) _ _ (λ _. tt) (λ g. omega (arith, ltb-false (length s) 2 g)))
+    (λ _. all-cond L (eqb (getD s 0 0) 0x82) _ _
+    (λ _. all-cond L (ltb (length s) 3) _ _ (λ _. tt) (λ g. omega (arith, ltb-false (length s) 3 g)))
+    (λ _. tt))))
+
+pub len-within : (r : Reading) (s : List ℕ) → All (Sized (length s)) (lenOf r s)
+len-within Crate s = len-82-within s
+len-within Standard s = len-82-within s
+
+pub object-within : (r : Reading) (s : List ℕ) → All (Ends (length s)) (objectOf r s)
+unfolding objectOf
+object-within r s =
+    let E = Ends (length s) in
+    all-then E (Tagged (length s)) (tagOf r s) _ (tag-within r s) (λ t h.
+    let rest = drop (t .size) s in
+    all-then E (Sized (length rest)) (lenOf r rest) _ (len-within r rest) (λ l g.
+    let room = length s - (t .size + l .size) in
+    all-cond E (leb (l .number) room) _ _
+    (λ f. omega (arith, leb-true (l .number) room f, length-drop (t .size) s)) (λ _. tt)))
+
+module _ (r : Reading) (t : ℕ) where
+  walk-within : (n a : ℕ) (s : List ℕ) → All (Lies a (a + length s)) (seekIn n r t a s)
+  unfolding seekIn
+  walk-within zero a s = tt
+  walk-within (suc n) a s =
+      let L = Lies a (a + length s) in
+      all-then L (Ends (length s)) (objectOf r s) _ (object-within r s) (λ o w.
+      let rest = drop (sizeOf o) s in
+      let b = a + sizeOf o in
+      all-cond L (eqb (o .tag) t) _ _ (λ _. omega arith)
+      (λ _. all-weaken L (Lies b (b + length rest)) (seekIn n r t b rest)
+      (λ p l. omega (arith, length-drop (sizeOf o) s)) (walk-within n b rest)))
+
+  -- a value found lies in the bytes that were searched
+  pub seek-within : (a : ℕ) (s : List ℕ) → All (Lies a (a + length s)) (seek r t a s)
+  unfolding seek
+  seek-within a s = walk-within (length s) a s
+
+-- so does a value at the end of a path, and it lies in the record
+pub follow-within : (r : Reading) (s : List ℕ) (p : Span) (path : List ℕ) → Lies 0 (length s) p → All (Lies 0 (length s)) (follow r s p path)
+unfolding follow
+follow-within r s p [] h = h
+follow-within r s p (t ∷ path) h =
+    let L = Lies 0 (length s) in
+    all-then L (Lies (p .at) (p .at + length (part s p))) (seek r t (p .at) (part s p)) _ (seek-within r t (p .at) (part s p))
+    (λ q l. follow-within r s q path (omega (arith, l, length-take (p .len) (drop (p .at) s), length-drop (p .at) s)))
+
+pub lookup-within : (r : Reading) (s path : List ℕ) → All (Lies 0 (length s)) (lookup r s path)
+lookup-within r s path = follow-within r s (whole s) path (omega arith)

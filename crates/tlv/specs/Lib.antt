@@ -1,0 +1,4 @@
+pub mod Tag
+pub mod Len
+pub mod Object
+pub mod Lookup

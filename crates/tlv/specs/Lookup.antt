@@ -1,0 +1,62 @@
+-- The lookup of a path. Document 01, "BER records" (lookup of a path) and "Numbers of refusal" (11, 12).
+use Prim.Native.Nat.{ℕ, zero, suc, _+_}
+use mathlib.Core.Path.{_≡_}
+use mathlib.Core.Bool.{cond}
+use mathlib.Core.List.{List, [], _∷_}
+use lib.Dec.{eqb}
+use lib.ListN.{length, take, drop}
+use Rattle.basis.specs.Reply.{Reply, is, no, then}
+use Rattle.tlv.specs.Object.{Object, sizeOf, objectOf}
+use Rattle.tlv.specs.declared.Reading.{Reading}
+use Rattle.tlv.specs.declared.lookup.GetDataObject.{GetDataObject}
+use Rattle.tlv.specs.declared.lookup.GetDataObject.the-variants as get
+
+-- a part of a record: its place and its length
+pub record Span : Type 0 where
+  pub at : ℕ
+  pub len : ℕ
+
+-- the bytes of a part, and the part that is all of a record
+abbrev pub part : List ℕ → Span → List ℕ
+part s p = take (p .len) (drop (p .at) s)
+
+abbrev pub whole : List ℕ → Span
+whole s = record { at = 0; len = length s }
+
+-- the value of the first object with the tag, in bytes s that start at place a of the record: an object is passed over whole;
+-- at most n objects are walked
+unfoldable pub seekIn : ℕ → Reading → ℕ → ℕ → List ℕ → Reply Span
+seekIn zero r t a s = no 11
+seekIn (suc n) r t a s =
+    then (objectOf r s) (λ o.
+    cond (eqb (o .tag) t) (is (record { at = a + o .at; len = o .len })) (seekIn n r t (a + sizeOf o) (drop (sizeOf o) s)))
+
+-- no list has more objects than bytes
+unfoldable pub seek : Reading → ℕ → ℕ → List ℕ → Reply Span
+seek r t a s = seekIn (length s) r t a s
+
+-- from a part of the record, tag by tag: the first object with the tag is entered, and there is no way back
+unfoldable pub follow : Reading → List ℕ → Span → List ℕ → Reply Span
+follow r s p [] = is p
+follow r s p (t ∷ path) = then (seek r t (p .at) (part s p)) (λ q. follow r s q path)
+
+abbrev pub lookup : Reading → List ℕ → List ℕ → Reply Span
+lookup r s path = follow r s (whole s) path
+
+abbrev pub said : GetDataObject → Reply Span
+said (get.Value a n) = is (record { at = a; len = n })
+said get.End = no 11
+said get.Unreadable = no 12
+
+-- the promise of `get_data_object`
+abbrev pub get-data-object-is : Reading → List ℕ → List ℕ → GetDataObject → Type 0
+get-data-object-is r s path x = said x ≡ lookup r s path
+
+-- the value found, as that part of the record; no bytes where there is none
+abbrev pub valueIn : List ℕ → Reply Span → List ℕ
+valueIn s (is p) = part s p
+valueIn s (no k) = []
+
+-- the promise of `value`
+abbrev pub value-is : Reading → List ℕ → List ℕ → List ℕ → Type 0
+value-is r s path x = x ≡ valueIn s (lookup r s path)
