@@ -1,0 +1,117 @@
+-- What lies behind a match is not seen: document 01, "BER records" (lookup of a path). Assumes nothing.
+use Prim.Native.Nat.{ℕ, zero, suc, _+_, _-_, _≤_}
+use mathlib.Core.Path.{_≡_, refl, sym, _∙_}
+use mathlib.Core.List.{List, [], _∷_, _++_}
+use native.Mathlib.Nat.{zero-add, add-sub-cancel-left}
+use native.Mathlib.Omega.{arith}
+use lib.Dec.{eqb}
+use lib.ListN.{length, take, drop, length-take, length-drop, length-append}
+use lib.Seq.{take-take, take-length, take-append-le}
+use borrow.Author.Tests.{eqb-true, eqb-false}
+use Rattle.basis.specs.Reply.{Reply, is, then}
+use Rattle.basis.proofs.Reply.{All, all-is, all-cond, all-then, all-weaken}
+use Rattle.tlv.specs.Object.{sizeOf, objectOf}
+use Rattle.tlv.specs.Lookup.{Span, part, seekIn, seek, follow, lookup}
+use Rattle.tlv.specs.declared.Reading.{Reading}
+use Rattle.tlv.proofs.Within.{Ends, Lies, object-within, seek-within, lookup-within}
+use Rattle.tlv.proofs.Walk.{seek-here, seek-next}
+use Rattle.tlv_laws.proofs.Choice.{all-self, all-both}
+use Rattle.tlv_laws.proofs.Front.{front-less, front-rest, object-front}
+
+-- a list s′ that is not shorter and has the bytes of s in front, up to a value found at a level
+module _ (r : Reading) (t : ℕ) where
+  abbrev Kept : ℕ → List ℕ → Span → Type 0
+  Kept a s p =
+      (a ≤ p .at) × ((s′ : List ℕ) → take (p .at - a) s′ ≡ take (p .at - a) s → length s ≤ length s′ → seek r t a s′ ≡ is p)
+
+  walk-front : (n a : ℕ) (s : List ℕ) → All (Kept a s) (seekIn n r t a s)
+  unfolding seekIn
+  walk-front zero a s = tt
+  walk-front (suc n) a s =
+      all-then (Kept a s) (λ o. objectOf r s ≡ is o) (objectOf r s) _ (all-self (objectOf r s)) (λ o e.
+      let w = all-is (Ends (length s)) (objectOf r s) o (object-within r s) e in
+      let k = sizeOf o in
+      all-cond (Kept a s) (eqb (o .tag) t) _ _
+      (λ h. (
+        omega arith,
+        λ s′ f g.
+            seek-here r t a s′ o (object-front r s s′ o e (rw add-sub-cancel-left at f) (omega arith)) (eqb-true (o .tag) t h),
+      ))
+      (λ h. all-weaken (Kept a s) (Kept (a + k) (drop k s)) (seekIn n r t (a + k) (drop k s)) (λ p z. (
+        omega arith,
+        λ s′ f g.
+            let first = front-less s s′ (p .at - a) f (o .at) (omega arith) in
+            let rest = front-rest s s′ (p .at - a) f k (p .at - (a + k)) (omega arith) in
+            seek-next r t a s′ o (object-front r s s′ o e first (omega arith)) (eqb-false (o .tag) t h)
+            ∙ z .1 (drop k s′) rest (simp length-drop (omega arith)),
+      ))
+      (walk-front n (a + k) (drop k s))))
+
+  pub seek-front : (a : ℕ) (s s′ : List ℕ) (p : Span) → seek r t a s ≡ is p → take (p .at - a) s′ ≡ take (p .at - a) s
+      → length s ≤ length s′ → seek r t a s′ ≡ is p
+  unfolding seek
+  seek-front a s s′ p e = all-is (Kept a s) (seek r t a s) p (walk-front (length s) a s) e .1 s′
+
+-- a value at the end of a path lies in the part that the path started from
+pub follow-inside : (r : Reading) (s : List ℕ) (p : Span) (path : List ℕ)
+    → All (Lies (p .at) (p .at + p .len)) (follow r s p path)
+unfolding follow
+follow-inside r s p [] = omega arith
+follow-inside r s p (t ∷ path) =
+    let L = Lies (p .at) (p .at + p .len) in
+    let b = part s p in
+    all-then L (Lies (p .at) (p .at + length b)) (seek r t (p .at) b) _ (seek-within r t (p .at) b) (λ q l.
+    all-weaken L (Lies (q .at) (q .at + q .len)) (follow r s q path)
+    (λ m h. omega (arith, length-take (p .len) (drop (p .at) s))) (follow-inside r s q path))
+
+-- a record s′ that is not shorter and has the bytes of s in front, up to the value found
+module _ (r : Reading) (s s′ : List ℕ) (long : length s ≤ length s′) where
+  abbrev Stays : (List ℕ → Reply Span) → Type 0
+  Stays look = All (λ q. take (q .at) s′ ≡ take (q .at) s → look s′ ≡ is q) (look s)
+
+  -- one level more, in bytes b and b′ that start at place a and agree where s and s′ do
+  enter : (t : ℕ) (path : List ℕ) (a : ℕ) (b : List ℕ → List ℕ) → ((m : Span) → Stays (λ l. follow r l m path))
+      → ((k : ℕ) → k ≤ length (b s) → take (a + k) s′ ≡ take (a + k) s → take k (b s′) ≡ take k (b s))
+      → length (b s) ≤ length (b s′)
+      → Stays (λ l. then (seek r t a (b l)) (λ m. follow r l m path))
+  enter t path a b deeper same more =
+      let x = seek r t a (b s) in
+      let P : Span → Type 0 = λ q. take (q .at) s′ ≡ take (q .at) s → then (seek r t a (b s′)) (λ m. follow r s′ m path) ≡ is q in
+      all-then P (λ m. x ≡ is m) x (λ m. follow r s m path) (all-self x) (λ m e.
+      let l = all-is (Lies a (a + length (b s))) x m (seek-within r t a (b s)) e in
+      let L = Lies (m .at) (m .at + m .len) in
+      let N : Span → Type 0 = λ q. take (q .at) s′ ≡ take (q .at) s → follow r s′ m path ≡ is q in
+      all-weaken P (λ q. L q × N q) (follow r s m path) (λ q w f.
+      let front = same (m .at - a) (omega arith) (front-less s s′ (q .at) f (a + (m .at - a)) (omega (arith, w .0))) in
+      rw (seek-front r t a (b s) (b s′) m e front more) (w .1 f))
+      (all-both L N (follow r s m path) (follow-inside r s m path) (deeper m)))
+
+  follow-front : (path : List ℕ) (p : Span) → Stays (λ l. follow r l p path)
+  unfolding follow
+  follow-front [] p = λ _. refl
+  follow-front (t ∷ path) p =
+      enter t path (p .at) (λ l. part l p) (follow-front path)
+      (λ k h e.
+      let short : k ≤ p .len = omega (arith, length-take (p .len) (drop (p .at) s)) in
+      take-take k (p .len) (drop (p .at) s′) short ∙ front-rest s s′ (p .at + k) e (p .at) k refl
+      ∙ sym (take-take k (p .len) (drop (p .at) s) short))
+      (simp (length-take, length-drop) (omega arith))
+
+  pub lookup-front : (t : ℕ) (path : List ℕ) (p : Span) → lookup r s (t ∷ path) ≡ is p → take (p .at) s′ ≡ take (p .at) s
+      → lookup r s′ (t ∷ path) ≡ is p
+  unfolding follow
+  lookup-front t path p e =
+      all-is (λ q. take (q .at) s′ ≡ take (q .at) s → lookup r s′ (t ∷ path) ≡ is q) (lookup r s (t ∷ path)) p
+      (rw (take-length s, take-length s′) (enter t path 0 (λ l. l) (follow-front path) (λ k _ h. rw zero-add at h) long)) e
+
+-- bytes behind what was searched change nothing once there is a match: at one level, and along a path
+pub behind-unseen : (r : Reading) (t a : ℕ) (s u : List ℕ) (p : Span) → seek r t a s ≡ is p → seek r t a (s ++ u) ≡ is p
+behind-unseen r t a s u p e =
+    let l = all-is (Lies a (a + length s)) (seek r t a s) p (seek-within r t a s) e in
+    seek-front r t a s (s ++ u) p e (take-append-le (p .at - a) s u (omega arith)) (simp length-append (omega arith))
+
+pub path-behind-unseen : (r : Reading) (s u : List ℕ) (t : ℕ) (path : List ℕ) (p : Span) → lookup r s (t ∷ path) ≡ is p
+    → lookup r (s ++ u) (t ∷ path) ≡ is p
+path-behind-unseen r s u t path p e =
+    let l = all-is (Lies 0 (length s)) (lookup r s (t ∷ path)) p (lookup-within r s (t ∷ path)) e in
+    lookup-front r s (s ++ u) (simp length-append (omega arith)) t path p e (take-append-le (p .at) s u (omega arith))

@@ -1,0 +1,46 @@
+-- Laws of truth values and replies. Assumes nothing.
+use Prim.Native.Nat.{ℕ}
+use mathlib.Core.Path.{_≡_, refl}
+use mathlib.Core.Bool.{Bool, true, false, cond, true≢false, false≢true}
+use Rattle.basis.specs.Reply.{Reply, is, no}
+use Rattle.basis.proofs.Reply.{All}
+
+-- either way
+pub by-test : {P : Type 0} (b : Bool) → (b ≡ true → P) → (b ≡ false → P) → P
+by-test true h g = h refl
+by-test false h g = g refl
+
+pub by-reply : {A P : Type 0} (x : Reply A) → ((a : A) → x ≡ is a → P) → ((k : ℕ) → x ≡ no k → P) → P
+by-reply (is a) h g = h a refl
+by-reply (no k) h g = g k refl
+
+pub on-cond : {A : Type 0} (P : A → Type 0) (b : Bool) (x y : A) → (b ≡ true → P x) → (b ≡ false → P y) → P (cond b x y)
+on-cond P true x y h g = h refl
+on-cond P false x y h g = g refl
+
+-- two choices by one test
+pub same-cond : {A : Type 0} (b : Bool) (x x′ y y′ : A) → (b ≡ true → x ≡ x′) → (b ≡ false → y ≡ y′) → cond b x y ≡ cond b x′ y′
+same-cond true x x′ y y′ h g = h refl
+same-cond false x x′ y y′ h g = g refl
+
+-- neither, and the second alone
+pub neither : (a b : Bool) → cond a true b ≡ false → (a ≡ false) × (b ≡ false)
+neither true b e = absurd (true≢false e)
+neither false b e = (refl, e)
+
+pub second : (a b : Bool) → cond a false b ≡ true → (a ≡ false) × (b ≡ true)
+second true b e = absurd (false≢true e)
+second false b e = (refl, e)
+
+pub not-true-false : (b : Bool) → (b ≡ true → ⊥) → b ≡ false
+not-true-false true h = absurd (h refl)
+not-true-false false h = refl
+
+-- a reply is the value that it gives
+pub all-self : {A : Type 0} (x : Reply A) → All (λ a. x ≡ is a) x
+all-self (is a) = refl
+all-self (no k) = tt
+
+pub all-both : {A : Type 0} (P Q : A → Type 0) (x : Reply A) → All P x → All Q x → All (λ a. P a × Q a) x
+all-both P Q (is a) h g = (h, g)
+all-both P Q (no k) h g = tt

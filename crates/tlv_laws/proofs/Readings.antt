@@ -1,0 +1,205 @@
+-- On exactly which tags the crate's and the standard reading part, and that nothing else does. Assumes nothing.
+use Prim.Native.Nat.{ℕ, zero, suc, _+_, _*_, _%_, _≤_, _<_}
+use mathlib.Core.Path.{_≡_, refl, sym, _∙_}
+use mathlib.Core.Bool.{Bool, true, false, not, cond, true≢false}
+use mathlib.Core.List.{List, [], _∷_}
+use native.Mathlib.Omega.{arith}
+use native.Mathlib.Decide.{decLt, decLe}
+use lib.Dec.{ltb, leb, eqb}
+use lib.ListN.{length, getD, drop}
+use borrow.Author.Tests.{ltb-false, leb-true, leb-false, eqb-true, eqb-false, le-ltb, le-leb, lt-leb, eq-eqb, ne-eqb}
+use Rattle.basis.specs.Differ.{Differ}
+use Rattle.basis.specs.Reply.{is, no as refused}
+use Rattle.basis.proofs.Reply.{All, all-is, all-cond, no-is, then-same}
+use Rattle.basis.proofs.Truth.{both}
+use Rattle.tlv.specs.Tag.{among, sizeBy, sizeByCrate, sizeByStandard, thirdBy, thirdByCrate, threeBytes, longTag, tagOf}
+use Rattle.tlv.specs.Object.{sizeOf, objectOf}
+use Rattle.tlv.specs.Lookup.{Span, part, whole, seekIn, seek, follow, lookup}
+use Rattle.tlv.proofs.Among.{inside, below, above}
+use Rattle.tlv.specs.declared.Reading.the-variants.{Crate, Standard}
+use Rattle.tlv_laws.specs.Readings.{partsTwo, partsThree, parts, meetsIn, meetsAt, meetsFrom, meets}
+use Rattle.tlv_laws.specs.Value.{ofValue}
+use Rattle.tlv_laws.proofs.Choice.{by-test, same-cond, neither, second, not-true-false, all-self}
+
+-- a second byte on which they part: the crate's tag ends there, the standard's does not
+module _ (b : ℕ) (e : partsTwo b ≡ true) where
+  two-crate : sizeByCrate b ≡ 2
+  unfolding partsTwo sizeByCrate among
+  two-crate =
+      by-test (eqb b 0x1E) (λ h. rw (eqb-true b 0x1E h)) (λ h.
+      let g : 0xFF ≤ b = leb-true 0xFF b (rw h at e) in
+      rw (above 0 0x1D b (omega arith) (omega arith), ne-eqb b 0x80 (omega arith), above 0x81 0xFE b (omega arith) g))
+
+  two-standard : eqb (sizeByStandard b) 2 ≡ false
+  unfolding partsTwo sizeByStandard among
+  two-standard =
+      by-test (eqb b 0x1E) (λ h. rw (eqb-true b 0x1E h)) (λ h.
+      let g : 0xFF ≤ b = leb-true 0xFF b (rw h at e) in
+      rw (above 0x1F 0x7F b (omega arith) (omega arith)) (by-test (among 0x81 0xFF b) (λ k. rw k) (λ k. rw k)))
+
+-- on any other they agree
+two-alike : (b : ℕ) → partsTwo b ≡ false → sizeByCrate b ≡ sizeByStandard b
+unfolding partsTwo sizeByCrate sizeByStandard
+two-alike b e =
+    let n = neither (eqb b 0x1E) (leb 0xFF b) e in
+    let g : b < 0xFF = leb-false 0xFF b (n .1) in
+    let f : b ≡ 0x1E → ⊥ = eqb-false b 0x1E (n .0) in
+    elim (decLt b 0x1F) [
+      | yes p ↦ rw (inside 0 0x1D b (omega arith) (omega arith), below 0x1F 0x7F b p, below 0x81 0xFF b (omega arith))
+      | no p ↦
+          elim (decLe b 0x7F) [
+            | yes q ↦
+                rw (
+                  above 0 0x1D b (omega arith) (omega arith),
+                  ne-eqb b 0x80 (omega arith),
+                  below 0x81 0xFE b (omega arith),
+                  inside 0x1F 0x7F b (omega arith) q,
+                )
+            | no q ↦
+                elim (decLe b 0x80) [
+                  | yes k ↦
+                      rw (
+                        above 0 0x1D b (omega arith) (omega arith),
+                        eq-eqb b 0x80 (omega arith),
+                        above 0x1F 0x7F b (omega arith) (omega arith),
+                        below 0x81 0xFF b (omega arith),
+                      )
+                  | no k ↦
+                      rw (
+                        above 0 0x1D b (omega arith) (omega arith),
+                        ne-eqb b 0x80 (omega arith),
+                        inside 0x81 0xFE b (omega arith) (omega arith),
+                        above 0x1F 0x7F b (omega arith) (omega arith),
+                        inside 0x81 0xFF b (omega arith) (omega arith),
+                      )
+                ]
+          ]
+    ]
+
+three-alike : (b : ℕ) → partsThree b ≡ false → thirdByCrate b ≡ leb b 0x7F
+unfolding partsThree thirdByCrate
+three-alike b e =
+    let n = neither (eqb b 0x80) (leb 0xFF b) e in
+    let g : b < 0xFF = leb-false 0xFF b (n .1) in
+    let f : b ≡ 0x80 → ⊥ = eqb-false b 0x80 (n .0) in
+    elim (decLe b 0x7F) [
+      | yes p ↦ rw (below 0x81 0xFE b (omega arith), le-leb b 0x7F p)
+      | no p ↦ rw (inside 0x81 0xFE b (omega arith) (omega arith), lt-leb b 0x7F (omega arith))
+    ]
+
+three-differ : (b : ℕ) → partsThree b ≡ true → (thirdByCrate b ≡ true) × (leb b 0x7F ≡ false)
+unfolding partsThree thirdByCrate among
+three-differ b e =
+    by-test (eqb b 0x80) (λ h. let g : b ≡ 0x80 = eqb-true b 0x80 h in (rw g, rw g)) (λ h.
+    let g : 0xFF ≤ b = leb-true 0xFF b (rw h at e) in
+    (rw (above 0x81 0xFE b (omega arith) g), lt-leb b 0x7F (omega arith)))
+
+-- a tag that the crate takes for three bytes long
+three : (b : ℕ) → eqb (sizeByCrate b) 0 ≡ false → eqb (sizeByCrate b) 2 ≡ false → among 0x81 0xFE b ≡ true
+unfolding sizeByCrate
+three b = go (among 0 0x1D b) (eqb b 0x80) (among 0x81 0xFE b)
+  where
+    go : (x y z : Bool) → eqb (cond x 0 (cond y 0 (cond z 3 2))) 0 ≡ false → eqb (cond x 0 (cond y 0 (cond z 3 2))) 2 ≡ false
+        → z ≡ true
+    go true y z h g = absurd (true≢false h)
+    go false true z h g = absurd (true≢false h)
+    go false false true h g = refl
+    go false false false h g = absurd (true≢false g)
+
+threes-crate : (b : ℕ) → among 0x81 0xFE b ≡ true → sizeByCrate b ≡ 3
+unfolding sizeByCrate among
+threes-crate b h =
+    let g = both (leb 0x81 b) (leb b 0xFE) h in
+    let f : 0x81 ≤ b = leb-true 0x81 b (g .0) in
+    rw (above 0 0x1D b (omega arith) (omega arith), ne-eqb b 0x80 (omega arith), h)
+
+module _ (s : List ℕ) where
+  -- where the readings do not part they read one tag
+  pub tags-alike : parts s ≡ false → tagOf Crate s ≡ tagOf Standard s
+  unfolding parts tagOf longTag threeBytes sizeBy thirdBy
+  tags-alike e =
+      let b2 = getD s 1 0 in
+      same-cond (ltb (length s) 1) _ _ _ _ (λ _. refl) (λ _.
+      same-cond (eqb (getD s 0 0 % 32) 31) _ _ _ _ (λ f.
+      same-cond (ltb (length s) 2) _ _ _ _ (λ _. refl) (λ h.
+      let n = neither (partsTwo b2) _ (rw (h, f) at e) in
+      rw (← two-alike b2 (n .0))
+      (same-cond (eqb (sizeByCrate b2) 0) _ _ _ _ (λ _. refl) (λ z.
+      same-cond (eqb (sizeByCrate b2) 2) _ _ _ _ (λ _. refl) (λ w.
+      same-cond (ltb (length s) 3) _ _ _ _ (λ _. refl) (λ g.
+      rw (three-alike (getD s 2 0) (rw (three b2 z w, g) at (n .1)))))))))
+      (λ _. refl))
+
+  -- where they part, one reads a tag that the other does not
+  module _ (h : ltb (length s) 2 ≡ false) (f : eqb (getD s 0 0 % 32) 31 ≡ true) (q : tagOf Crate s ≡ tagOf Standard s) where
+    some : ltb (length s) 1 ≡ false
+    some = le-ltb (length s) 1 (omega (arith, ltb-false (length s) 2 h))
+
+    part-two : partsTwo (getD s 1 0) ≡ true → ⊥
+    unfolding tagOf longTag threeBytes sizeBy
+    part-two e =
+        let short : tagOf Crate s ≡ is (record { number = getD s 0 0 * 256 + getD s 1 0; size = 2 }) =
+        rw (some, f, h, two-crate (getD s 1 0) e) in
+        let long : All (λ t. t .size ≡ 3) (tagOf Standard s) =
+        rw (some, f, h, two-standard (getD s 1 0) e)
+        (all-cond (λ t. t .size ≡ 3) (eqb (sizeByStandard (getD s 1 0)) 0) _ _ (λ _. tt) (λ _.
+        all-cond (λ t. t .size ≡ 3) (ltb (length s) 3) _ _ (λ _. tt) (λ _.
+        all-cond (λ t. t .size ≡ 3) (thirdBy Standard (getD s 2 0)) _ _ (λ _. refl) (λ _. tt)))) in
+        omega (arith, all-is (λ t. t .size ≡ 3) (tagOf Standard s) _ long (sym q ∙ short))
+
+    part-three : partsTwo (getD s 1 0) ≡ false → among 0x81 0xFE (getD s 1 0) ≡ true → ltb (length s) 3 ≡ false
+        → partsThree (getD s 2 0) ≡ true → ⊥
+    unfolding tagOf longTag threeBytes sizeBy thirdBy
+    part-three e a g p =
+        let three : sizeByCrate (getD s 1 0) ≡ 3 = threes-crate (getD s 1 0) a in
+        let d = three-differ (getD s 2 0) p in
+        let taken : tagOf Crate s ≡ is (record { number = (getD s 0 0 * 256 + getD s 1 0) * 256 + getD s 2 0; size = 3 }) =
+        rw (some, f, h, three, g, d .0) in
+        let left : tagOf Standard s ≡ refused 12 =
+        rw (some, f, h, sym (two-alike (getD s 1 0) e) ∙ three, g, d .1) in
+        no-is 12 _ (sym left ∙ sym q ∙ taken)
+
+  tags-part : parts s ≡ true → tagOf Crate s ≡ tagOf Standard s → ⊥
+  unfolding parts
+  tags-part e q =
+      let n = second (ltb (length s) 2) _ e in
+      let m = both (eqb (getD s 0 0 % 32) 31) _ (n .1) in
+      by-test (partsTwo (getD s 1 0)) (part-two (n .0) (m .0) q) (λ h.
+      let a = both (among 0x81 0xFE (getD s 1 0)) _ (rw h at (m .1)) in
+      let g = second (ltb (length s) 3) (partsThree (getD s 2 0)) (a .1) in
+      part-three (n .0) (m .0) q h (a .0) (g .0) (g .1))
+
+  pub tags-differ : Differ (parts s ≡ true) (tagOf Crate s) (tagOf Standard s)
+  tags-differ = record { differ = tags-part; equal = λ h. tags-alike (not-true-false (parts s) h) }
+
+  pub objects-alike : parts s ≡ false → objectOf Crate s ≡ objectOf Standard s
+  unfolding objectOf
+  objects-alike e = rw (tags-alike e)
+
+-- where none of those tags is met the readings look up alike
+walk-alike : (n t a : ℕ) (s : List ℕ) → meetsIn n t s ≡ false → seekIn n Crate t a s ≡ seekIn n Standard t a s
+unfolding meetsIn seekIn
+walk-alike zero t a s e = refl
+walk-alike (suc n) t a s e =
+    let m = neither (parts s) _ e in
+    rw (← objects-alike s (m .0))
+    (then-same (λ o. objectOf Crate s ≡ is o) (objectOf Crate s) _ _ (all-self (objectOf Crate s)) (λ o q.
+    same-cond (eqb (o .tag) t) _ _ _ _ (λ _. refl) (λ h.
+    walk-alike n t (a + sizeOf o) (drop (sizeOf o) s) (rw (q, h) at (m .1)))))
+
+seek-alike : (t a : ℕ) (s : List ℕ) → meetsAt t s ≡ false → seek Crate t a s ≡ seek Standard t a s
+unfolding meetsAt seek
+seek-alike t a s = walk-alike (length s) t a s
+
+follow-alike : (s : List ℕ) (p : Span) (path : List ℕ) → meetsFrom s p path ≡ false
+    → follow Crate s p path ≡ follow Standard s p path
+unfolding meetsFrom follow
+follow-alike s p [] e = refl
+follow-alike s p (t ∷ path) e =
+    let x = seek Crate t (p .at) (part s p) in
+    let m = neither (meetsAt t (part s p)) (ofValue x false (λ q. meetsFrom s q path)) e in
+    rw (← seek-alike t (p .at) (part s p) (m .0))
+    (then-same (λ q. x ≡ is q) x _ _ (all-self x) (λ q h. follow-alike s q path (rw h at (m .1))))
+
+pub lookups-alike : (s path : List ℕ) → meets s path ≡ false → lookup Crate s path ≡ lookup Standard s path
+lookups-alike s path = follow-alike s (whole s) path

@@ -1,0 +1,339 @@
+-- A lookup does not see the values that it passes over, and finds nothing in them: document 01, "BER records". Assumes nothing.
+use Prim.Native.Nat.{ℕ, zero, suc, _+_, _≤_, _<_}
+use mathlib.Core.Path.{_≡_, refl, sym, ap, _∙_}
+use mathlib.Core.Bool.{true, false, cond}
+use mathlib.Core.List.{List, [], _∷_, _++_}
+use native.Mathlib.Nat.{zero-add, add-zero, suc-add, add-suc, add-assoc}
+use native.Mathlib.Omega.{arith}
+use lib.Dec.{eqb}
+use lib.ListN.{length, getD, take, drop, length-take, length-drop}
+use lib.Seq.{getD-take, getD-drop, ext-getD, length-take-le}
+use borrow.Author.Tests.{lt-ltb, le-ltb, le-leb, lt-leb, ne-eqb}
+use Rattle.basis.specs.Reply.{is, no as refused}
+use Rattle.basis.proofs.Reply.{All, all-is, all-weaken, then-same}
+use Rattle.tlv.specs.Tag.{tagOf}
+use Rattle.tlv.specs.Object.{Object, sizeOf, objectOf}
+use Rattle.tlv.specs.Lookup.{Span, part, whole, seekIn, seek, follow, lookup, valueIn}
+use Rattle.tlv.specs.declared.Reading.{Reading}
+use Rattle.tlv.proofs.Within.{Ends, Lies, object-within, seek-within, lookup-within}
+use Rattle.tlv.proofs.Walk.{seek-next}
+use Rattle.tlv_laws.specs.Value.{ofValue}
+use Rattle.tlv_laws.specs.Skipped.{valueAt, passedIn, passedAt, passedFrom, passed, Every}
+use Rattle.tlv_laws.specs.Skipped.{covers, within, fillIn, refill, seen}
+use Rattle.tlv_laws.proofs.Choice.{by-test, by-reply, on-cond, same-cond, neither, second, all-self, all-both}
+use Rattle.tlv_laws.proofs.Front.{object-front}
+use Rattle.tlv_laws.proofs.Behind.{follow-inside}
+
+-- an object with another tag is passed over whole, whatever its value is
+pub skipped : (r : Reading) (t a : ℕ) (s : List ℕ) (o : Object) → objectOf r s ≡ is o → (o .tag ≡ t → ⊥)
+    → seek r t a s ≡ seek r t (a + sizeOf o) (drop (sizeOf o) s)
+skipped r t a s o e h = seek-next r t a s o e h
+
+module _ (r : Reading) (t : ℕ) where
+  -- any bound on the objects that is not below the bytes serves
+  enough : (n m a : ℕ) (s : List ℕ) → length s ≤ n → length s ≤ m → passedIn n r t a s ≡ passedIn m r t a s
+  unfolding passedIn objectOf tagOf
+  enough zero zero a s h g = refl
+  enough zero (suc m) a [] h g = refl
+  enough zero (suc m) a (x ∷ s) h g = absurd (omega arith)
+  enough (suc n) zero a [] h g = refl
+  enough (suc n) zero a (x ∷ s) h g = absurd (omega arith)
+  enough (suc n) (suc m) a s h g =
+      by-reply (objectOf r s) (λ o e.
+      let w = all-is (Ends (length s)) (objectOf r s) o (object-within r s) e in
+      let k = sizeOf o in
+      rw e (same-cond (eqb (o .tag) t) _ _ _ _ (λ _. refl) (λ _. ap (λ (qs : List Span). valueAt a o ∷ qs)
+      (enough n m (a + k) (drop k s) (simp length-drop (omega arith)) (simp length-drop (omega arith))))))
+      (λ k e. rw e)
+
+  -- and its value is one of those passed over
+  pub passed-next : (a : ℕ) (s : List ℕ) (o : Object) → objectOf r s ≡ is o → (o .tag ≡ t → ⊥)
+      → passedAt r t a s ≡ valueAt a o ∷ passedAt r t (a + sizeOf o) (drop (sizeOf o) s)
+  unfolding passedAt passedIn
+  passed-next a s o e h =
+      let w = all-is (Ends (length s)) (objectOf r s) o (object-within r s) e in
+      let k = sizeOf o in
+      enough (length s) (suc (length s)) a s (omega arith) (omega arith)
+      ∙ rw (e, ne-eqb (o .tag) t h) (ap (λ (qs : List Span). valueAt a o ∷ qs)
+      (enough (length s) (length (drop k s)) (a + k) (drop k s) (simp length-drop (omega arith)) (omega arith)))
+
+every-append : (P : Span → Type 0) (xs ys : List Span) → Every P xs → Every P ys → Every P (xs ++ ys)
+every-append P [] ys h g = g
+every-append P (x ∷ xs) ys h g = (h .0, every-append P xs ys (h .1) g)
+
+every-weaken : (P Q : Span → Type 0) (xs : List Span) → ((q : Span) → Q q → P q) → Every Q xs → Every P xs
+every-weaken P Q [] f h = tt
+every-weaken P Q (x ∷ xs) f h = (f x (h .0), every-weaken P Q xs f (h .1))
+
+-- places outside of a part, and of all parts of a list
+covers-ahead : (q : Span) (i : ℕ) → i < q .at → covers q i ≡ false
+unfolding covers
+covers-ahead q i h = rw (lt-leb (q .at) i h)
+
+covers-behind : (q : Span) (i : ℕ) → q .at + q .len ≤ i → covers q i ≡ false
+unfolding covers
+covers-behind q i h = rw (le-leb (q .at) i (omega arith), le-ltb i (q .at + q .len) h)
+
+within-none : (qs : List Span) (i : ℕ) → Every (λ q. covers q i ≡ false) qs → within qs i ≡ false
+unfolding within
+within-none [] i h = refl
+within-none (q ∷ qs) i h = rw (h .0) (within-none qs i (h .1))
+
+within-append : (xs ys : List Span) (i : ℕ) → within xs i ≡ false → within ys i ≡ false → within (xs ++ ys) i ≡ false
+unfolding within
+within-append [] ys i h g = g
+within-append (q ∷ qs) ys i h g =
+    let n = neither (covers q i) (within qs i) h in
+    rw (n .0) (within-append qs ys i (n .1) g)
+
+-- a part that ends at a place or before it
+abbrev Before : Span → Span → Type 0
+Before p q = q .at + q .len ≤ p .at
+
+-- two lists with one byte at each of the first k places
+take-same : (k : ℕ) (s s′ : List ℕ) → k ≤ length s → k ≤ length s′ → ((i : ℕ) → i < k → getD s i 0 ≡ getD s′ i 0)
+    → take k s ≡ take k s′
+take-same k s s′ h g same =
+    let n : length (take k s) ≡ k = length-take-le k s h in
+    ext-getD 0 (take k s) (take k s′) (n ∙ sym (length-take-le k s′ g)) (λ i l.
+    let m : i < k = omega arith in
+    getD-take k s i 0 m ∙ same i m ∙ sym (getD-take k s′ i 0 m))
+
+module _ (r : Reading) (t : ℕ) where
+  -- at one level: what is passed over lies in the bytes searched, and before the value found
+  passed-within : (n a : ℕ) (s : List ℕ) → Every (Lies a (a + length s)) (passedIn n r t a s)
+  unfolding passedIn
+  passed-within zero a s = tt
+  passed-within (suc n) a s =
+      by-reply (objectOf r s) (λ o e.
+      let w = all-is (Ends (length s)) (objectOf r s) o (object-within r s) e in
+      let k = sizeOf o in
+      rw e (on-cond (Every (Lies a (a + length s))) (eqb (o .tag) t) _ _ (λ _. tt) (λ _. (
+        omega arith,
+        every-weaken (Lies a (a + length s)) (Lies (a + k) (a + k + length (drop k s))) (passedIn n r t (a + k) (drop k s))
+            (λ q l. omega (arith, length-drop k s)) (passed-within n (a + k) (drop k s)),
+      ))))
+      (λ k e. rw e tt)
+
+  passed-before : (n a : ℕ) (s : List ℕ) → All (λ p. (a ≤ p .at) × Every (Before p) (passedIn n r t a s)) (seekIn n r t a s)
+  unfolding passedIn seekIn
+  passed-before zero a s = tt
+  passed-before (suc n) a s =
+      by-reply (objectOf r s) (λ o e.
+      let w = all-is (Ends (length s)) (objectOf r s) o (object-within r s) e in
+      let k = sizeOf o in
+      let P : Span → Type 0 = λ p. (a + k ≤ p .at) × Every (Before p) (passedIn n r t (a + k) (drop k s)) in
+      rw e (by-test (eqb (o .tag) t) (λ h. rw h (omega arith)) (λ h.
+      rw h (all-weaken _ P (seekIn n r t (a + k) (drop k s)) (λ p f. (omega arith, (omega arith, f .1)))
+      (passed-before n (a + k) (drop k s))))))
+      (λ k e. rw e tt)
+
+  level-before : (a : ℕ) (s : List ℕ) (p : Span) → seek r t a s ≡ is p → Every (Before p) (passedAt r t a s)
+  unfolding passedAt seek
+  level-before a s p e =
+      all-is (λ p. (a ≤ p .at) × Every (Before p) (passedIn (length s) r t a s)) (seek r t a s) p
+      (passed-before (length s) a s) e .1
+
+  -- a place that this level looks at: outside of what is passed over, and before the value found
+  abbrev Looked : ℕ → ℕ → List ℕ → ℕ → Type 0
+  Looked n a s i = (within (passedIn n r t a s) i ≡ false) × All (λ p. i < p .at) (seekIn n r t a s)
+
+  -- it looks at a front that is no object, at an object's tag and length, and at what it looks at further on
+  looked-no : (n a : ℕ) (s : List ℕ) (k i : ℕ) → objectOf r s ≡ refused k → Looked (suc n) a s i
+  unfolding seekIn passedIn within
+  looked-no n a s k i e = rw e (refl, tt)
+
+  module _ (n a : ℕ) (s : List ℕ) (o : Object) (i : ℕ) (e : objectOf r s ≡ is o) where
+    looked-head : i < a + o .at → Looked (suc n) a s i
+    unfolding seekIn passedIn within
+    looked-head h =
+        let k = sizeOf o in
+        let d = drop k s in
+        let rest = passedIn n r t (a + k) d in
+        rw e (by-test (eqb (o .tag) t) (λ g. rw g (refl, h)) (λ g.
+        rw (g, covers-ahead (valueAt a o) i h) (
+          within-none rest i (every-weaken (λ q. covers q i ≡ false) (Lies (a + k) (a + k + length d)) rest
+              (λ q l. covers-ahead q i (omega arith)) (passed-within n (a + k) d)),
+          all-weaken (λ p. i < p .at) (λ p. (a + k ≤ p .at) × Every (Before p) rest) (seekIn n r t (a + k) d)
+              (λ p f. omega arith) (passed-before n (a + k) d),
+        )))
+
+    looked-rest : eqb (o .tag) t ≡ false → a + sizeOf o ≤ i → Looked n (a + sizeOf o) (drop (sizeOf o) s) i → Looked (suc n) a s i
+    unfolding seekIn passedIn within
+    looked-rest g h l = rw (e, g, covers-behind (valueAt a o) i (omega arith)) l
+
+  -- bytes that agree wherever this level looks
+  level-unseen : (n a : ℕ) (s s′ : List ℕ) → length s′ ≡ length s
+      → ((i : ℕ) → i < length s → Looked n a s (a + i) → getD s′ i 0 ≡ getD s i 0) → seekIn n r t a s′ ≡ seekIn n r t a s
+  unfolding seekIn
+  level-unseen zero a s s′ long same = refl
+  level-unseen (suc n) a s s′ long same =
+      by-reply (objectOf r s) (λ o e.
+      let w = all-is (Ends (length s)) (objectOf r s) o (object-within r s) e in
+      let k = sizeOf o in
+      let head : take (o .at) s′ ≡ take (o .at) s = take-same (o .at) s′ s (omega arith) (omega arith) (λ i h.
+      same i (omega arith) (looked-head n a s o (a + i) e (omega arith))) in
+      rw (object-front r s s′ o e head (omega arith), e)
+      (same-cond (eqb (o .tag) t) _ _ _ _ (λ _. refl) (λ g.
+      level-unseen n (a + k) (drop k s) (drop k s′) (simp length-drop (omega arith)) (λ i h l.
+      let below : k + i < length s = omega (arith, length-drop k s) in
+      getD-drop k s′ i 0 ∙ same (k + i) below (looked-rest n a s o (a + (k + i)) e g (omega arith) (rw add-assoc at l))
+      ∙ sym (getD-drop k s i 0)))))
+      (λ k e. ap (seekIn (suc n) r t a) (ext-getD 0 s′ s long (λ i h. same i (omega arith) (looked-no n a s k (a + i) e))))
+
+  seek-unseen : (a : ℕ) (s s′ : List ℕ) → length s′ ≡ length s
+      → ((i : ℕ) → i < length s → Looked (length s) a s (a + i) → getD s′ i 0 ≡ getD s i 0) → seek r t a s′ ≡ seek r t a s
+  unfolding seek
+  seek-unseen a s s′ long same = rw long (level-unseen (length s) a s s′ long same)
+
+-- along a path: what is passed over lies behind the start of the part that the path starts from
+passed-from : (r : Reading) (s : List ℕ) (p : Span) (path : List ℕ) → Every (λ q. p .at ≤ q .at) (passedFrom r s p path)
+unfolding passedFrom passedAt
+passed-from r s p [] = tt
+passed-from r s p (t ∷ path) =
+    let b = part s p in
+    let F : Span → Type 0 = λ q. p .at ≤ q .at in
+    let x = seek r t (p .at) b in
+    every-append F (passedAt r t (p .at) b) (ofValue x [] (λ q. passedFrom r s q path))
+    (every-weaken F (Lies (p .at) (p .at + length b)) (passedAt r t (p .at) b) (λ q l. l .0)
+    (passed-within r t (length b) (p .at) b))
+    (by-reply x (λ m e.
+    let l = all-is (Lies (p .at) (p .at + length b)) x m (seek-within r t (p .at) b) e in
+    rw e (every-weaken F (λ q. m .at ≤ q .at) (passedFrom r s m path) (λ q h. omega arith) (passed-from r s m path)))
+    (λ k e. rw e tt))
+
+-- and before the value found
+follow-outside : (r : Reading) (s : List ℕ) (p : Span) (path : List ℕ)
+    → All (λ q. Every (Before q) (passedFrom r s p path)) (follow r s p path)
+unfolding passedFrom follow
+follow-outside r s p [] = tt
+follow-outside r s p (t ∷ path) =
+    let b = part s p in
+    let x = seek r t (p .at) b in
+    by-reply x (λ m e.
+    let deeper = passedFrom r s m path in
+    let here = passedAt r t (p .at) b in
+    let y = follow r s m path in
+    let L = Lies (m .at) (m .at + m .len) in
+    rw e (all-weaken (λ q. Every (Before q) (here ++ deeper)) (λ q. L q × Every (Before q) deeper) y (λ q h.
+    every-append (Before q) here deeper
+    (every-weaken (Before q) (Before m) here (λ z f. omega arith) (level-before r t (p .at) b m e)) (h .1))
+    (all-both L (λ q. Every (Before q) deeper) y (follow-inside r s m path) (follow-outside r s m path))))
+    (λ k e. rw e tt)
+
+-- a value found does not lie in a value passed over: each of those ends before it
+pub found-outside : (r : Reading) (s path : List ℕ) (p : Span) → lookup r s path ≡ is p
+    → Every (λ q. q .at + q .len ≤ p .at) (passed r s path)
+found-outside r s path p e =
+    all-is (λ p. Every (Before p) (passed r s path)) (lookup r s path) p (follow-outside r s (whole s) path) e
+
+module _ (r : Reading) (s : List ℕ) where
+  -- a place that the path from p on looks at: one that its first level looks at, or a deeper one
+  abbrev LookedFrom : Span → List ℕ → ℕ → Type 0
+  LookedFrom p path i = (within (passedFrom r s p path) i ≡ false) × All (λ q. i < q .at) (follow r s p path)
+
+  module _ (p : Span) (t : ℕ) (path : List ℕ) (i : ℕ) where
+    looked-level : Looked r t (length (part s p)) (p .at) (part s p) i → LookedFrom p (t ∷ path) i
+    unfolding follow passedFrom passedAt seek within
+    looked-level l =
+        let x = seek r t (p .at) (part s p) in
+        let here = passedAt r t (p .at) (part s p) in
+        by-reply x (λ m e.
+        let f : i < m .at = all-is (λ m. i < m .at) x m (l .1) e in
+        let deeper = passedFrom r s m path in
+        rw e (
+          within-append here deeper i (l .0) (within-none deeper i
+              (every-weaken (λ q. covers q i ≡ false) (λ q. m .at ≤ q .at) deeper
+              (λ q g. covers-ahead q i (omega arith)) (passed-from r s m path))),
+          all-weaken (λ q. i < q .at) (Lies (m .at) (m .at + m .len)) (follow r s m path) (λ q g. omega arith)
+              (follow-inside r s m path),
+        ))
+        (λ k e. rw e (within-append here [] i (l .0) refl, tt))
+
+    looked-deeper : (m : Span) → seek r t (p .at) (part s p) ≡ is m → m .at ≤ i → LookedFrom m path i → LookedFrom p (t ∷ path) i
+    unfolding follow passedFrom
+    looked-deeper m e h l =
+        let here = passedAt r t (p .at) (part s p) in
+        rw e (
+          within-append here (passedFrom r s m path) i (within-none here i (every-weaken (λ q. covers q i ≡ false) (Before m) here
+              (λ q g. covers-behind q i (omega arith)) (level-before r t (p .at) (part s p) m e))) (l .0),
+          l .1,
+        )
+
+  -- a record of that length that agrees wherever the path looks
+  module _ (s′ : List ℕ) (long : length s′ ≡ length s) where
+    follow-unseen : (path : List ℕ) (p : Span) → p .at + p .len ≤ length s
+        → ((i : ℕ) → p .at ≤ i → i < p .at + p .len → LookedFrom p path i → getD s′ i 0 ≡ getD s i 0)
+        → follow r s′ p path ≡ follow r s p path
+    unfolding follow
+    follow-unseen [] p h same = refl
+    follow-unseen (t ∷ path) p h same =
+        let b = part s p in
+        let b′ = part s′ p in
+        let x = seek r t (p .at) b in
+        let size : length b ≡ p .len = simp (length-take, length-drop) (omega arith) in
+        let size′ : length b′ ≡ length b = simp (length-take, length-drop) (omega arith) in
+        let byte : (l : List ℕ) (i : ℕ) → i < p .len → getD (part l p) i 0 ≡ getD l (p .at + i) 0 = λ l i g.
+        getD-take (p .len) (drop (p .at) l) i 0 g ∙ getD-drop (p .at) l i 0 in
+        let level : seek r t (p .at) b′ ≡ x = seek-unseen r t (p .at) b b′ size′ (λ i g l.
+        byte s′ i (omega arith) ∙ same (p .at + i) (omega arith) (omega arith) (looked-level p t path (p .at + i) l)
+        ∙ sym (byte s i (omega arith))) in
+        rw level (then-same (λ m. x ≡ is m) x _ _ (all-self x) (λ m e.
+        let w = all-is (Lies (p .at) (p .at + length b)) x m (seek-within r t (p .at) b) e in
+        follow-unseen path m (omega arith) (λ i g f l. same i (omega arith) (omega arith) (looked-deeper p t path i m e g l))))
+
+-- a lookup depends only on the bytes that it looks at: those outside of the values passed over and before the value found
+pub unseen : (r : Reading) (s s′ path : List ℕ) → length s′ ≡ length s
+    → ((i : ℕ) → i < length s → seen r s path i ≡ true → getD s′ i 0 ≡ getD s i 0) → lookup r s′ path ≡ lookup r s path
+unseen r s s′ path long same =
+    rw long (follow-unseen r s s′ long path (whole s) (omega arith) (λ i _ h l.
+    same i (omega arith) (rw (l .0) (by-reply (lookup r s path)
+    (λ p e. rw e (lt-ltb i (p .at) (all-is (λ q. i < q .at) (lookup r s path) p (l .1) e)))
+    (λ k e. rw e)))))
+
+-- other bytes in some parts: the length, and each byte
+pub length-fill : (f : ℕ → ℕ) (qs : List Span) (a : ℕ) (s : List ℕ) → length (fillIn f qs a s) ≡ length s
+unfolding fillIn
+length-fill f qs a [] = refl
+length-fill f qs a (b ∷ s) = ap suc (length-fill f qs (suc a) s)
+
+pub byte-fill : (f : ℕ → ℕ) (qs : List Span) (a : ℕ) (s : List ℕ) (i : ℕ) → i < length s
+    → getD (fillIn f qs a s) i 0 ≡ cond (within qs (a + i)) (f (a + i)) (getD s i 0)
+unfolding fillIn
+byte-fill f qs a [] i h = absurd (omega arith)
+byte-fill f qs a (b ∷ s) zero h = rw add-zero
+byte-fill f qs a (b ∷ s) (suc i) h = rw (byte-fill f qs (suc a) s i (omega arith), suc-add, add-suc)
+
+module _ (f : ℕ → ℕ) (r : Reading) (s path : List ℕ) where
+  -- the record keeps its length
+  pub refilled-length : length (refill f r s path) ≡ length s
+  refilled-length = length-fill f (passed r s path) 0 s
+
+  -- the bytes of the values passed over are those of f, all others stay
+  pub refilled-byte : (i : ℕ) → i < length s → getD (refill f r s path) i 0 ≡ cond (within (passed r s path) i) (f i) (getD s i 0)
+  refilled-byte i h = rw zero-add at (byte-fill f (passed r s path) 0 s i h)
+
+  -- whatever bytes stand in the values passed over, the lookup is the same
+  pub refilled : lookup r (refill f r s path) path ≡ lookup r s path
+  refilled =
+      unseen r s (refill f r s path) path refilled-length (λ i h g.
+      refilled-byte i h ∙ rw (second (within (passed r s path) i) _ g .0))
+
+  -- and shows the same value
+  pub refilled-value : valueIn (refill f r s path) (lookup r (refill f r s path) path) ≡ valueIn s (lookup r s path)
+  refilled-value =
+      let s′ = refill f r s path in
+      rw refilled (by-reply (lookup r s path) (λ p e.
+      let l = all-is (Lies 0 (length s)) (lookup r s path) p (lookup-within r s path) e in
+      let out : (i : ℕ) → p .at ≤ i → within (passed r s path) i ≡ false = λ i h.
+      within-none (passed r s path) i (every-weaken (λ q. covers q i ≡ false) (Before p) (passed r s path)
+      (λ q g. covers-behind q i (omega arith)) (found-outside r s path p e)) in
+      rw e (take-same (p .len) (drop (p .at) s′) (drop (p .at) s)
+      (simp (length-drop, refilled-length) (omega arith)) (simp length-drop (omega arith)) (λ i h.
+      getD-drop (p .at) s′ i 0 ∙ refilled-byte (p .at + i) (omega arith) ∙ rw (out (p .at + i) (omega arith))
+      (sym (getD-drop (p .at) s i 0)))))
+      (λ k e. rw e))
+
+  -- and no bytes placed in a value passed over are found
+  pub none-placed : (p : Span) → lookup r (refill f r s path) path ≡ is p → Every (λ q. q .at + q .len ≤ p .at) (passed r s path)
+  none-placed p e = found-outside r s path p (sym refilled ∙ e)

@@ -1,0 +1,60 @@
+-- The values that a lookup passes over, and a record with other bytes in them. Document 01, "BER records" (lookup of a path) and
+-- "Mistakes a reader would make": a record is walked object by object, never searched for a tag's bytes.
+use Prim.Native.Nat.{ℕ, zero, suc, _+_}
+use mathlib.Core.Bool.{Bool, true, false, cond}
+use mathlib.Core.List.{List, [], _∷_, _++_}
+use lib.Dec.{ltb, leb, eqb}
+use lib.ListN.{length, drop}
+use Rattle.tlv.specs.Object.{Object, sizeOf, objectOf}
+use Rattle.tlv.specs.Lookup.{Span, part, whole, seek, lookup}
+use Rattle.tlv.specs.declared.Reading.{Reading}
+use Rattle.tlv_laws.specs.Value.{ofValue}
+
+-- where the value lies of an object that starts at place a
+abbrev pub valueAt : ℕ → Object → Span
+valueAt a o = record { at = a + o .at; len = o .len }
+
+-- the values passed over on the way to the first object with the tag, in bytes s that start at place a of the record; at most n
+-- objects are walked, and no list has more objects than bytes
+unfoldable pub passedIn : ℕ → Reading → ℕ → ℕ → List ℕ → List Span
+passedIn zero r t a s = []
+passedIn (suc n) r t a s =
+    ofValue (objectOf r s) [] (λ o. cond (eqb (o .tag) t) [] (valueAt a o ∷ passedIn n r t (a + sizeOf o) (drop (sizeOf o) s)))
+
+unfoldable pub passedAt : Reading → ℕ → ℕ → List ℕ → List Span
+passedAt r t a s = passedIn (length s) r t a s
+
+-- the values passed over from a part of the record on, at every level of the path
+unfoldable pub passedFrom : Reading → List ℕ → Span → List ℕ → List Span
+passedFrom r s p [] = []
+passedFrom r s p (t ∷ path) =
+    passedAt r t (p .at) (part s p) ++ ofValue (seek r t (p .at) (part s p)) [] (λ q. passedFrom r s q path)
+
+abbrev pub passed : Reading → List ℕ → List ℕ → List Span
+passed r s path = passedFrom r s (whole s) path
+
+-- what holds of every part of a list
+abbrev pub Every : (Span → Type 0) → List Span → Type 0
+Every P [] = Unit {0}
+Every P (q ∷ qs) = P q × Every P qs
+
+-- whether a place lies in a part, and in one of several
+unfoldable pub covers : Span → ℕ → Bool
+covers q i = cond (leb (q .at) i) (ltb i (q .at + q .len)) false
+
+unfoldable pub within : List Span → ℕ → Bool
+within [] i = false
+within (q ∷ qs) i = cond (covers q i) true (within qs i)
+
+-- bytes s that start at place a, with other bytes in those parts: at each place the one that f has for it
+unfoldable pub fillIn : (ℕ → ℕ) → List Span → ℕ → List ℕ → List ℕ
+fillIn f qs a [] = []
+fillIn f qs a (b ∷ s) = cond (within qs a) (f a) b ∷ fillIn f qs (suc a) s
+
+-- the record with other bytes in all the values that the lookup passes over
+abbrev pub refill : (ℕ → ℕ) → Reading → List ℕ → List ℕ → List ℕ
+refill f r s path = fillIn f (passed r s path) 0 s
+
+-- whether a lookup looks at a place: outside of the values passed over, and before the value found
+abbrev pub seen : Reading → List ℕ → List ℕ → ℕ → Bool
+seen r s path i = cond (within (passed r s path) i) false (ofValue (lookup r s path) true (λ p. ltb i (p .at)))
