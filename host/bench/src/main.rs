@@ -1,139 +1,40 @@
-//! Times the proved parser beside the Rust's: the same commands, in one run, both built for release.
+//! Times the proved library beside the Rust: the same commands and records, in one run, both built for release.
 //!
 //!     bench [--emulated]
 //!
-//! A call parses one command in the crate's reading and writes its 8 numbers to a buffer, which is not cleared between the
-//! calls. Neither side is inlined into the loop: there is one call of `CommandView::try_from`, or one of
-//! `gorvisclen_command`. The sides alternate round by round, and the best round of each counts. It fails where ours takes
-//! more than a tenth longer, unless it runs emulated.
+//! Neither side is inlined into the loop: a call is one call of the Rust's function, or one of what is exported. The sides
+//! alternate round by round, and the best round of each counts. It fails where ours takes more than its limit, a tenth longer
+//! for a command and half as long again for a lookup, unless it runs emulated. A line with the limit `inf` has none.
 
-use std::hint::black_box;
-use std::time::Instant;
+mod command;
+mod lookup;
+
 use std::{env, process};
-
-use gorvisclen::{Refused, COMMAND_NUMBERS, CRATE_READING};
-use original::command::{CommandView, FromSliceError};
 
 const ROUNDS: usize = 400;
 
-/// How many calls a round makes, or a few less.
-const CALLS: usize = 12_000;
-
-/// The most that ours may take of the Rust's time, on an x86-64 machine.
-const MOST: f64 = 1.10;
-
-type Out = [u64; COMMAND_NUMBERS];
-
-/// One command: its kind, what it is, its bytes.
-type Sample = (&'static str, &'static str, Vec<u8>);
-
-fn samples() -> Vec<Sample> {
-    let header = [0x00, 0xDB, 0x3F, 0xFF];
-    let data = vec![0xAA; 65_535];
-    let body = |parts: &[&[u8]]| [&header[..], &parts.concat()].concat();
-    let of_class_ff = [0xFF, 0xA4, 0x04, 0x00].to_vec();
-    vec![
-        ("short", "case 1", body(&[])),
-        ("short", "case 2S", body(&[&[0]])),
-        ("short", "case 3S, 16 bytes", body(&[&[16], &data[..16]])),
-        (
-            "short",
-            "case 4S, 255 bytes",
-            body(&[&[255], &data[..255], &[0]]),
-        ),
-        ("extended", "case 2E", body(&[&[0, 1, 0]])),
-        (
-            "extended",
-            "case 3E, 16 bytes",
-            body(&[&[0, 0, 16], &data[..16]]),
-        ),
-        (
-            "extended",
-            "case 3E, 256 bytes",
-            body(&[&[0, 1, 0], &data[..256]]),
-        ),
-        (
-            "extended",
-            "case 4E, 65,535 bytes",
-            body(&[&[0, 255, 255], &data, &[0, 0]]),
-        ),
-        ("refused", "1, under 4 bytes", header[..3].to_vec()),
-        ("refused", "3, class FF", of_class_ff),
-        ("refused", "4, a byte too few", body(&[&[16], &data[..15]])),
-        (
-            "refused",
-            "5, a byte too few",
-            body(&[&[0, 1, 0], &data[..255]]),
-        ),
-    ]
+/// The lines printed, of which those are kept that are above their limit.
+#[derive(Default)]
+pub struct Lines {
+    slow: Vec<String>,
 }
 
-#[inline(always)]
-fn by_rust(apdu: &[u8], out: &mut Out) -> u8 {
-    match CommandView::try_from(apdu) {
-        Ok(view) => {
-            let instruction: u8 = view.instruction().into();
-            *out = [
-                view.class().into_inner().into(),
-                instruction.into(),
-                view.p1.into(),
-                view.p2.into(),
-                (view.data().as_ptr() as usize - apdu.as_ptr() as usize) as u64,
-                view.data().len() as u64,
-                view.expected() as u64,
-                view.extended.into(),
-            ];
-            0
+impl Lines {
+    /// Times both sides in turn, each by rounds that say the nanoseconds of a call, and prints a line.
+    fn time(&mut self, name: &str, most: f64, rust: impl Fn() -> f64, ours: impl Fn() -> f64) {
+        let mut best = (f64::INFINITY, f64::INFINITY);
+        for _ in 0..ROUNDS {
+            best.0 = best.0.min(rust());
+            best.1 = best.1.min(ours());
         }
-        Err(FromSliceError::TooShort) => 1,
-        Err(FromSliceError::TooLong) => 2,
-        Err(FromSliceError::InvalidClass) => 3,
-        Err(FromSliceError::InvalidFirstBodyByteForExtended) => 4,
-        Err(FromSliceError::InvalidSliceLength) => 5,
-    }
-}
-
-#[inline(always)]
-fn by_ours(apdu: &[u8], out: &mut Out) -> u8 {
-    match gorvisclen::command(CRATE_READING, apdu, out) {
-        Ok(()) => 0,
-        Err(Refused(number)) => number,
-    }
-}
-
-/// The nanoseconds that a call takes in one round over the commands.
-#[inline(never)]
-fn round(call: impl Fn(&[u8], &mut Out) -> u8, apdus: &[&[u8]]) -> f64 {
-    let mut out: Out = [0; COMMAND_NUMBERS];
-    let times = CALLS / apdus.len();
-    let start = Instant::now();
-    for _ in 0..times {
-        for apdu in apdus {
-            black_box(call(black_box(apdu), black_box(&mut out)));
+        let ratio = best.1 / best.0;
+        println!(
+            "{name:<36} {:>10.2} {:>10.2} {ratio:>6.2} {most:>6.2}",
+            best.0, best.1
+        );
+        if ratio > most {
+            self.slow.push(name.trim().to_string());
         }
-    }
-    start.elapsed().as_nanos() as f64 / (times * apdus.len()) as f64
-}
-
-/// Times both sides on the commands in turn and prints a line. Says whether ours is fast enough.
-fn time(name: &str, apdus: &[&[u8]]) -> bool {
-    let (mut rust, mut ours) = (f64::INFINITY, f64::INFINITY);
-    for _ in 0..ROUNDS {
-        rust = rust.min(round(by_rust, apdus));
-        ours = ours.min(round(by_ours, apdus));
-    }
-    let ratio = ours / rust;
-    println!("{name:<34} {rust:>8.2} {ours:>8.2} {ratio:>6.2}");
-    ratio <= MOST
-}
-
-/// Ends the program if the two sides do not answer the same.
-fn check((kind, name, apdu): &Sample) {
-    let (mut theirs, mut ours) = ([7; COMMAND_NUMBERS], [7; COMMAND_NUMBERS]);
-    let replies = (by_rust(apdu, &mut theirs), by_ours(apdu, &mut ours));
-    if replies.0 != replies.1 || theirs != ours {
-        println!("{kind}, {name}: the sides differ: {replies:?}, {theirs:?}, {ours:?}");
-        process::exit(1);
     }
 }
 
@@ -147,33 +48,25 @@ fn main() {
             process::exit(2);
         }
     };
-    let samples = samples();
-    samples.iter().for_each(check);
-    println!("nanoseconds a call, the best of {ROUNDS} rounds    rust     ours  ratio");
-    let mut slow = Vec::new();
-    for kind in ["short", "extended", "refused"] {
-        let of_kind = || samples.iter().filter(|sample| sample.0 == kind);
-        let apdus: Vec<&[u8]> = of_kind().map(|sample| &sample.2[..]).collect();
-        if !time(kind, &apdus) {
-            slow.push(kind);
-        }
-        for (_, name, apdu) in of_kind() {
-            if !time(&format!("  {name}"), &[apdu]) {
-                slow.push(name);
-            }
-        }
-    }
+    println!("nanoseconds a call, the best of {ROUNDS} rounds");
+    println!(
+        "{:36} {:>10} {:>10} {:>6} {:>6}",
+        "", "rust", "ours", "ratio", "limit"
+    );
+    let mut lines = Lines::default();
+    command::time(&mut lines);
+    lookup::time(&mut lines);
     if emulated {
         println!("emulated: x86-64 code on another machine; the times say nothing, and the ratios little");
     } else {
         println!("not emulated");
     }
-    match &slow[..] {
-        [] => println!("none takes more than {MOST:.2} of the Rust's time"),
-        _ => {
+    match &lines.slow[..] {
+        [] => println!("none takes more of the Rust's time than its limit"),
+        slow => {
             println!(
-                "more than {MOST:.2} of the Rust's time: {}",
-                slow.join(", ")
+                "more of the Rust's time than its limit: {}",
+                slow.join("; ")
             );
             process::exit(if emulated { 0 } else { 1 });
         }

@@ -8,6 +8,7 @@ mod command;
 mod inputs;
 mod lent;
 mod tally;
+mod tlv;
 
 use std::{env, process};
 
@@ -33,5 +34,6 @@ fn main() {
     class::compare(&mut tally);
     aid::compare(&mut tally, &mut inputs);
     command::compare(&mut tally, &mut inputs);
+    tlv::compare(&mut tally, &mut inputs);
     tally.finish();
 }

@@ -11,7 +11,12 @@ use crate::lent::Outcome;
 const MOST: u64 = 20;
 
 /// What stands in the name of an operation that the Rust does not have, and what it is held to instead.
-const HELD_TO: [(&str, &str); 2] = [("held to a table", "table"), ("held to a rule", "rule")];
+const HELD_TO: [(&str, &str); 4] = [
+    ("held to a table", "table"),
+    ("held to a rule", "rule"),
+    ("held to a model", "model"),
+    ("held to document 01", "paper"),
+];
 
 /// The cases of one name: how many there are, and how many of them demand each reply.
 #[derive(Default)]
@@ -46,6 +51,27 @@ impl Count {
 }
 
 impl Tally {
+    /// Counts cases of one reply, and where it is done, as many for each operation that `numbers` names.
+    pub fn count(
+        &mut self,
+        operation: &'static str,
+        numbers: &[&'static str],
+        reply: u8,
+        cases: u64,
+    ) {
+        if cases == 0 {
+            return;
+        }
+        let count = self.counts.entry(operation).or_default();
+        count.cases += cases;
+        *count.replies.entry(reply).or_default() += cases;
+        if reply == 0 {
+            for name in numbers {
+                self.counts.entry(name).or_default().cases += cases;
+            }
+        }
+    }
+
     /// Compares one call. Its reply and all that was lent count for `operation`; where it is done, the numbers that it
     /// wrote count each for the operation that `numbers` names.
     pub fn compare(
@@ -56,15 +82,9 @@ impl Tally {
         demanded: &Outcome,
         ours: &Outcome,
     ) {
-        let count = self.counts.entry(operation).or_default();
-        count.cases += 1;
-        *count.replies.entry(number_of(demanded.reply)).or_default() += 1;
         let both_done = demanded.reply.is_ok() && ours.reply.is_ok();
-        if both_done {
-            for name in numbers {
-                self.counts.entry(name).or_default().cases += 1;
-            }
-        }
+        let told = if both_done { numbers } else { &[] };
+        self.count(operation, told, number_of(demanded.reply), 1);
         if demanded == ours {
             return;
         }

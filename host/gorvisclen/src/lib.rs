@@ -1,7 +1,7 @@
 //! The functions that the proved library exports, each as a safe Rust function of the same name without its prefix.
 //!
 //! Every function answers on every input: `Ok`, or `Err` with the refusal's number. A refusal changes nothing that was
-//! lent, save for 18 (see `command_extend`). What lies behind the numbers or bytes written stays.
+//! lent, save for 18 (see `command_extend`). What lies before and behind the numbers or bytes written stays.
 //!
 //! | No. | Given exactly when |
 //! |---|---|
@@ -11,11 +11,14 @@
 //! | 4 | the first byte behind the command's header is not zero, and no short case fits |
 //! | 5 | the first byte behind the command's header is zero, and no case fits |
 //! | 6 to 10 | the AID is empty; over 16 bytes; truncated above its length; national under 5; international under 5 |
-//! | 16 | what was lent for the answer is too short |
+//! | 11 | the end was reached at an object boundary: no byte is left where an object would start |
+//! | 12 | an object starts here but cannot be read; a length cannot be read |
+//! | 16 | what was lent for the answer is too short; an object to write does not fit from the named place |
 //! | 18 | the held data and the new data exceed the room |
+//! | 19 | the value to write is above 65,535 bytes |
 //! | 21 | standard reading: the command has an extended Lc of zero and an Le |
 //!
-//! Where several would be given, the smallest is; but 2 comes behind 3, 4 and 5.
+//! Where several would be given, the smallest is; but 2 comes behind 3, 4 and 5, and a `buffer` that is too short behind 19.
 
 /// A refusal's number.
 #[derive(Clone, Copy, Debug, PartialEq, Eq)]
@@ -26,10 +29,10 @@ pub type Reply = Result<(), Refused>;
 /// The number that stands for "there is none", in the place of a channel or a part's length.
 pub const NONE: u64 = 256;
 
-/// The reading of a command that the Rust crate has.
+/// The reading of a command or of a BER record that the Rust crate has.
 pub const CRATE_READING: u8 = 0;
 
-/// The reading of a command that the standard has; every other number but 0 names it too.
+/// The reading of them that the standard has; every other number but 0 names it too.
 pub const STANDARD_READING: u8 = 1;
 
 /// How many numbers `class` and `class_as_chained` write.
@@ -46,6 +49,18 @@ pub const COMMAND_NUMBERS: usize = 8;
 
 /// How many numbers `command_owned` and `command_extend` write.
 pub const OWNED_NUMBERS: usize = 7;
+
+/// How many numbers `take_tag` writes.
+pub const TAG_NUMBERS: usize = 2;
+
+/// How many numbers `take_len` writes.
+pub const LEN_NUMBERS: usize = 2;
+
+/// How many numbers `take_data_object` writes.
+pub const OBJECT_NUMBERS: usize = 3;
+
+/// How many numbers `get_data_object` writes.
+pub const LOOKUP_NUMBERS: usize = 2;
 
 // A slice passes as its pointer and its length.
 extern "C" {
@@ -111,6 +126,59 @@ extern "C" {
         room_len: usize,
         apdu: *const u8,
         apdu_len: usize,
+        out: *mut u64,
+        out_len: usize,
+    ) -> u8;
+    fn gorvisclen_take_tag(
+        reading: u8,
+        bytes: *const u8,
+        bytes_len: usize,
+        out: *mut u64,
+        out_len: usize,
+    ) -> u8;
+    fn gorvisclen_take_len(
+        reading: u8,
+        bytes: *const u8,
+        bytes_len: usize,
+        out: *mut u64,
+        out_len: usize,
+    ) -> u8;
+    fn gorvisclen_take_data_object(
+        reading: u8,
+        bytes: *const u8,
+        bytes_len: usize,
+        out: *mut u64,
+        out_len: usize,
+    ) -> u8;
+    fn gorvisclen_get_data_object(
+        reading: u8,
+        record: *const u8,
+        record_len: usize,
+        path: *const u32,
+        path_len: usize,
+        out: *mut u64,
+        out_len: usize,
+    ) -> u8;
+    fn gorvisclen_value(
+        reading: u8,
+        record: *const u8,
+        record_len: usize,
+        path: *const u32,
+        path_len: usize,
+        to: *mut u8,
+        to_len: usize,
+        out: *mut u64,
+        out_len: usize,
+    ) -> u8;
+    fn gorvisclen_put_data_object(
+        b1: u8,
+        b2: u8,
+        b3: u8,
+        value: *const u8,
+        value_len: usize,
+        buffer: *mut u8,
+        buffer_len: usize,
+        at: usize,
         out: *mut u64,
         out_len: usize,
     ) -> u8;
@@ -270,6 +338,112 @@ pub fn command_extend(len: usize, room: &mut [u8], apdu: &[u8], out: &mut [u64])
             room.len(),
             apdu.as_ptr(),
             apdu.len(),
+            out.as_mut_ptr(),
+            out.len(),
+        )
+    })
+}
+
+/// The tag that some bytes start with, in 2 numbers: its bytes as one big-endian number; how many they are.
+/// Refusals: 11 of no bytes, 12, 16.
+pub fn take_tag(reading: u8, bytes: &[u8], out: &mut [u64]) -> Reply {
+    reply(unsafe {
+        gorvisclen_take_tag(
+            reading,
+            bytes.as_ptr(),
+            bytes.len(),
+            out.as_mut_ptr(),
+            out.len(),
+        )
+    })
+}
+
+/// The length that some bytes start with, in 2 numbers: the length; how many bytes it takes.
+/// Refusals: 12, of no bytes too, and 16.
+pub fn take_len(reading: u8, bytes: &[u8], out: &mut [u64]) -> Reply {
+    reply(unsafe {
+        gorvisclen_take_len(
+            reading,
+            bytes.as_ptr(),
+            bytes.len(),
+            out.as_mut_ptr(),
+            out.len(),
+        )
+    })
+}
+
+/// The object that some bytes start with, in 3 numbers: its tag as one number; the place of its value in `bytes`; the
+/// value's length. What is left starts at the sum of the last two.
+/// Refusals: 11 of no bytes, 12, 16.
+pub fn take_data_object(reading: u8, bytes: &[u8], out: &mut [u64]) -> Reply {
+    reply(unsafe {
+        gorvisclen_take_data_object(
+            reading,
+            bytes.as_ptr(),
+            bytes.len(),
+            out.as_mut_ptr(),
+            out.len(),
+        )
+    })
+}
+
+/// The value that a path of tags leads to, each as one number, in 2 numbers: its place in `record`; its length. At each level
+/// the first object with the tag is entered. An empty path leads to the whole record.
+/// Refusals: 11 where the tag is not at a level, 12, 16.
+#[inline]
+pub fn get_data_object(reading: u8, record: &[u8], path: &[u32], out: &mut [u64]) -> Reply {
+    reply(unsafe {
+        gorvisclen_get_data_object(
+            reading,
+            record.as_ptr(),
+            record.len(),
+            path.as_ptr(),
+            path.len(),
+            out.as_mut_ptr(),
+            out.len(),
+        )
+    })
+}
+
+/// Copies the value that a path of tags leads to to the front of `to`; a lookup that is refused has none. Writes one number:
+/// the value's length. Refusal: 16.
+pub fn value(reading: u8, record: &[u8], path: &[u32], to: &mut [u8], out: &mut [u64]) -> Reply {
+    reply(unsafe {
+        gorvisclen_value(
+            reading,
+            record.as_ptr(),
+            record.len(),
+            path.as_ptr(),
+            path.len(),
+            to.as_mut_ptr(),
+            to.len(),
+            out.as_mut_ptr(),
+            out.len(),
+        )
+    })
+}
+
+/// Writes an object into `buffer` from the place `at`: the bytes of its tag, without the zero bytes in front (the last byte
+/// stays); the shortest length; the value. Writes one number: how many bytes these are.
+/// Refusals: 19; 16 where they do not fit, for every `at`. Where `out` is too short it is 16, before 19.
+pub fn put_data_object(
+    tag: [u8; 3],
+    value: &[u8],
+    buffer: &mut [u8],
+    at: usize,
+    out: &mut [u64],
+) -> Reply {
+    let [b1, b2, b3] = tag;
+    reply(unsafe {
+        gorvisclen_put_data_object(
+            b1,
+            b2,
+            b3,
+            value.as_ptr(),
+            value.len(),
+            buffer.as_mut_ptr(),
+            buffer.len(),
+            at,
             out.as_mut_ptr(),
             out.len(),
         )

@@ -1,0 +1,205 @@
+//! BER records: every string of up to three bytes as a tag, a length and an object; nested records, whole, damaged and cut;
+//! objects written; and what else each test below says. The crate's reading runs beside the Rust, which says `None` for 11 and
+//! for 12: a model says which. The standard reading, which the Rust does not have, runs beside that model.
+
+mod edges;
+mod front;
+mod lookup;
+mod model;
+mod names;
+mod records;
+mod writing;
+
+use gorvisclen::{
+    CRATE_READING, LEN_NUMBERS, LOOKUP_NUMBERS, OBJECT_NUMBERS, STANDARD_READING, TAG_NUMBERS,
+};
+
+use self::front::{LEN, OBJECT, TAG};
+use self::lookup::Lookup;
+use self::records::{length_forms, long_record, some_paths, some_record, Record};
+use crate::inputs::Inputs;
+use crate::tally::Tally;
+
+/// What the front of some bytes is read as, with `out` long enough and too short.
+fn every_front(tally: &mut Tally, inputs: &mut Inputs, bytes: &[u8]) {
+    for reading in [CRATE_READING, 1 + inputs.below(255) as u8] {
+        TAG.compare(tally, reading, bytes, TAG_NUMBERS + inputs.below(3));
+        LEN.compare(tally, reading, bytes, LEN_NUMBERS + inputs.below(3));
+        OBJECT.compare(tally, reading, bytes, OBJECT_NUMBERS + inputs.below(3));
+        match inputs.below(3) {
+            0 => TAG.compare(tally, reading, bytes, inputs.below(TAG_NUMBERS)),
+            1 => LEN.compare(tally, reading, bytes, inputs.below(LEN_NUMBERS)),
+            _ => OBJECT.compare(tally, reading, bytes, inputs.below(OBJECT_NUMBERS)),
+        }
+    }
+}
+
+/// A lookup by place and by content, with `out` and `to` of lengths around those that it needs.
+fn every_lookup(tally: &mut Tally, inputs: &mut Inputs, record: &[u8], path: &[u32]) {
+    for reading in [CRATE_READING, 1 + inputs.below(255) as u8] {
+        let lookup = Lookup {
+            reading,
+            record,
+            path,
+        };
+        lookup.find(tally, LOOKUP_NUMBERS + inputs.below(3));
+        let n = lookup.len();
+        lookup.value(tally, n + inputs.below(3), 1 + inputs.below(2));
+        match inputs.below(3) {
+            0 => lookup.find(tally, inputs.below(LOOKUP_NUMBERS)),
+            1 => lookup.value(tally, n.saturating_sub(1), 1),
+            _ => lookup.value(tally, inputs.below(n + 1), inputs.below(2)),
+        }
+    }
+}
+
+/// Every string of up to three bytes.
+fn every_short_string(tally: &mut Tally) {
+    for len in 0..=3 {
+        for reading in [CRATE_READING, STANDARD_READING] {
+            TAG.every_string(tally, reading, len);
+            LEN.every_string(tally, reading, len);
+            OBJECT.every_string(tally, reading, len);
+        }
+    }
+}
+
+/// Objects with values of every length to 300 and around the most, each form of the length; the value whole, a byte short, and
+/// with a byte behind it.
+fn every_length(tally: &mut Tally, inputs: &mut Inputs) {
+    for n in (0..=300).chain(65_533..=65_535) {
+        for form in length_forms(n) {
+            let header = [&[0x5F, 0x24], &form[..]].concat();
+            let row = [&header[..], &inputs.bytes(n + 1)].concat();
+            for end in [row.len() - 1, row.len() - 2, row.len()] {
+                every_front(tally, inputs, &row[..end]);
+                every_lookup(tally, inputs, &row[..end], &[0x5F24]);
+            }
+            LEN.compare(tally, CRATE_READING, &form, LEN_NUMBERS);
+        }
+    }
+}
+
+/// Every reading and every length of what is lent, to more than is needed.
+fn every_buffer(tally: &mut Tally) {
+    let records: [&[u8]; 7] = [
+        &[],
+        &[0x5F, 0x24, 0x03, 0x26, 0x10, 0x09],
+        &[0x5F, 0x1E, 0x01, 0xAA, 0x5F, 0x24, 0x00],
+        &[0x5A, 0x81, 0x02, 0xAA, 0xBB],
+        &[0x70, 0x04, 0x5F, 0x24, 0x01, 0xAA],
+        &[0xDF, 0x81, 0x01, 0x82, 0x00, 0x01, 0xAA],
+        &[0x5F, 0x80, 0x01],
+    ];
+    let paths: [&[u32]; 5] = [&[], &[0x5F24], &[0x70, 0x5F24], &[0x5A], &[0xDF8101]];
+    for record in records {
+        for reading in 0..=255 {
+            for len in 0..=4 {
+                TAG.compare(tally, reading, record, len);
+                LEN.compare(tally, reading, record, len);
+                OBJECT.compare(tally, reading, record, len);
+                for path in paths {
+                    let lookup = Lookup {
+                        reading,
+                        record,
+                        path,
+                    };
+                    lookup.find(tally, len);
+                    for to_len in 0..=lookup.len() + 1 {
+                        lookup.value(tally, to_len, len);
+                    }
+                }
+            }
+        }
+    }
+}
+
+/// Bytes read as a record, along the paths; and the front of what they have from some place on.
+fn every_operation(tally: &mut Tally, inputs: &mut Inputs, bytes: &[u8], paths: &[Vec<u32>]) {
+    for path in paths {
+        every_lookup(tally, inputs, bytes, path);
+    }
+    every_front(tally, inputs, bytes);
+    let at = inputs.below(bytes.len() + 1);
+    every_front(tally, inputs, &bytes[at..]);
+}
+
+/// Nested records of every depth to 6: whole, with a byte changed, damaged, and cut.
+fn nested(tally: &mut Tally, inputs: &mut Inputs) {
+    for i in 0..14_000 {
+        let record = some_record(inputs, i % 7);
+        let paths = some_paths(inputs, &record);
+        every_operation(tally, inputs, &record.bytes, &paths);
+        let (some, others) = paths.split_at(4);
+        let changed = inputs.one_byte_off(&record.bytes);
+        every_operation(tally, inputs, &changed, some);
+        let damaged = inputs.damaged(&record.bytes);
+        every_operation(tally, inputs, &damaged, others);
+        let cut = &record.bytes[..inputs.below(record.bytes.len() + 1)];
+        every_operation(tally, inputs, cut, some);
+    }
+}
+
+/// Records that are cut at every place, and that have each byte changed.
+fn every_cut(tally: &mut Tally, inputs: &mut Inputs) {
+    for i in 0..140 {
+        let Record { mut bytes, paths } = some_record(inputs, 1 + i % 6);
+        bytes.truncate(200);
+        let path = &paths[inputs.below(paths.len())];
+        for at in 0..=bytes.len() {
+            every_lookup(tally, inputs, &bytes[..at], path);
+        }
+        for at in 0..bytes.len() {
+            let mut changed = bytes.clone();
+            changed[at] ^= 1 + inputs.below(255) as u8;
+            every_lookup(tally, inputs, &changed, path);
+        }
+    }
+}
+
+/// Long records of many small objects: the last one, at the top and in a template, one that is missing, and cut copies.
+fn long(tally: &mut Tally, inputs: &mut Inputs) {
+    for outer in [200, 60_000, 65_500, 66_000, 140_000] {
+        for inner in [20, 300, 33_000, 65_500] {
+            let record = long_record(inputs, outer, inner);
+            let [top, inside] = [&record.paths[0][..], &record.paths[1]];
+            let len = record.bytes.len();
+            let missing = [inside[0], 0x5F2A];
+            for path in [&[], top, inside, &missing, &missing[1..]] {
+                every_lookup(tally, inputs, &record.bytes, path);
+            }
+            for cut in [1, 3, 4, 7, 1 + inputs.below(len)] {
+                every_lookup(tally, inputs, &record.bytes[..len - cut], top);
+                every_lookup(tally, inputs, &record.bytes[..len - cut], inside);
+            }
+        }
+    }
+}
+
+/// Rows of any bytes; every second one is small, a tag of one byte or a length that may fit.
+fn random(tally: &mut Tally, inputs: &mut Inputs) {
+    for _ in 0..20_000 {
+        let most = [5, 12, 40][inputs.below(3)];
+        let n = inputs.below(most);
+        let mut bytes = inputs.bytes(n);
+        bytes.iter_mut().step_by(2).for_each(|byte| *byte %= 64);
+        let first = bytes.iter().take(1).map(|&byte| byte.into()).collect();
+        every_operation(tally, inputs, &bytes, &[Vec::new(), first]);
+    }
+}
+
+pub fn compare(tally: &mut Tally, inputs: &mut Inputs) {
+    edges::the_incident(tally, inputs);
+    edges::p7_p8_p9(tally);
+    edges::tags(tally);
+    edges::lengths_and_objects(tally);
+    edges::lookups(tally);
+    every_short_string(tally);
+    every_length(tally, inputs);
+    every_buffer(tally);
+    nested(tally, inputs);
+    every_cut(tally, inputs);
+    long(tally, inputs);
+    random(tally, inputs);
+    writing::compare(tally, inputs);
+}

@@ -1,0 +1,65 @@
+//! What the operations on BER records count for.
+
+use gorvisclen::CRATE_READING;
+
+/// The names of an operation: where the Rust reads, where it says `None`, and in the standard reading.
+pub struct Names {
+    pub some: &'static str,
+    pub none: &'static str,
+    pub standard: &'static str,
+    /// What each number is that the Rust's answer has.
+    pub numbers: &'static [&'static str],
+}
+
+macro_rules! standard {
+    ($operation:literal) => {
+        concat!(
+            $operation,
+            ", standard reading (held to a model of EMV Book 3 Annex B)"
+        )
+    };
+}
+
+macro_rules! names {
+    ($operation:literal, $($number:literal),*) => {
+        Names {
+            some: $operation,
+            none: concat!($operation, ", None (11 or 12: held to a model of document 01)"),
+            standard: standard!($operation),
+            numbers: &[$(concat!($operation, ", ", $number)),*],
+        }
+    };
+}
+
+pub const TAG: Names = names!("take_tag", "the tag", "how many bytes it takes");
+
+pub const LEN: Names = names!("take_len", "the length", "how many bytes it takes");
+
+pub const OBJECT: Names = names!(
+    "take_data_object",
+    "the tag",
+    "the value's place",
+    "the value's length"
+);
+
+pub const LOOKUP: Names = names!("get_data_object", "the value's place", "the value's length");
+
+/// A lookup with a number in its path that no tag of the Rust can hold.
+pub const ABOVE: &str =
+    "get_data_object, a number above FFFFFF (no Rust: held to a model of document 01)";
+
+pub const VALUE: &str = "get_data_object, the value's bytes";
+pub const STANDARD_VALUE: &str = standard!("get_data_object, the value's bytes");
+pub const ABOVE_VALUE: &str =
+    "get_data_object, the value's bytes, a number above FFFFFF (no Rust: held to a model of document 01)";
+
+impl Names {
+    /// The operation that an answer counts for, and those that its numbers do.
+    pub fn of<T>(&self, reading: u8, answer: &Result<T, u8>) -> (&'static str, &[&'static str]) {
+        match (reading, answer) {
+            (CRATE_READING, Ok(_)) => (self.some, self.numbers),
+            (CRATE_READING, Err(_)) => (self.none, &[]),
+            _ => (self.standard, &[]),
+        }
+    }
+}

@@ -1,0 +1,241 @@
+//! Records of nested objects to look into, and paths to look for.
+
+use crate::inputs::Inputs;
+
+/// Tags that both readings take, of one, two and three bytes, and those next to what is refused.
+const TAGS: [&[u8]; 24] = [
+    &[0x00],
+    &[0x5A],
+    &[0xC1],
+    &[0x24],
+    &[0x70],
+    &[0x6F],
+    &[0xE1],
+    &[0x5F, 0x24],
+    &[0x5F, 0x25],
+    &[0x5F, 0x1F],
+    &[0x5F, 0x7F],
+    &[0x1F, 0x20],
+    &[0x9F, 0x36],
+    &[0x7F, 0x21],
+    &[0xBF, 0x2C],
+    &[0xFF, 0x1F],
+    &[0xDF, 0x81, 0x01],
+    &[0x7F, 0x81, 0x00],
+    &[0x1F, 0xFE, 0x7F],
+    &[0x5F, 0x90, 0x24],
+    &[0xFF, 0x81, 0x7F],
+    &[0x3F, 0xC0, 0x1F],
+    &[0xDF, 0xA4, 0x5F],
+    &[0x9F, 0x81, 0x24],
+];
+
+/// Tags that one reading takes, or neither; the readings part on their bytes.
+const PARTING: [&[u8]; 12] = [
+    &[0x5F, 0x1E],
+    &[0xFF, 0xFF],
+    &[0x1F, 0xFF],
+    &[0x5F, 0xFF, 0x24],
+    &[0xFF, 0x81, 0x80],
+    &[0xDF, 0xFE, 0xFF],
+    &[0x5F, 0x80],
+    &[0x5F, 0x1D],
+    &[0x1F, 0x00],
+    &[0x7F, 0x81, 0x81],
+    &[0x9F, 0x90, 0xFE],
+    &[0xFF, 0x80, 0x01],
+];
+
+/// Numbers that are no tag in either reading.
+const NO_TAGS: [u32; 14] = [
+    0x1F,
+    0x5F,
+    0xFF,
+    0x0124,
+    0x5A00,
+    0x5F1D,
+    0x5F80,
+    0x5F_8181,
+    0x01_5F24,
+    0x5F_2400,
+    0x0100_0000,
+    0x0100_5F24,
+    0x5F24_0000,
+    0xFFFF_FFFF,
+];
+
+/// Bytes, and the paths to the objects that they were made of. In damaged bytes these lead anywhere.
+#[derive(Clone, Default)]
+pub struct Record {
+    pub bytes: Vec<u8>,
+    pub paths: Vec<Vec<u32>>,
+}
+
+fn number(tag: &[u8]) -> u32 {
+    tag.iter().fold(0, |n, &byte| n * 256 + u32::from(byte))
+}
+
+fn some_tag(inputs: &mut Inputs) -> &'static [u8] {
+    match inputs.below(24) {
+        0 => PARTING[inputs.below(PARTING.len())],
+        1..=8 => TAGS[7 + inputs.below(2)],
+        _ => TAGS[inputs.below(TAGS.len())],
+    }
+}
+
+/// The ways in which a length can be written, the shortest first. `n` is at most 65,535.
+pub fn length_forms(n: usize) -> Vec<Vec<u8>> {
+    let [.., high, low] = n.to_be_bytes();
+    let forms = [(0x7F, vec![low]), (0xFF, vec![0x81, low])];
+    let fits = forms.into_iter().filter(|(most, _)| n <= *most);
+    fits.map(|(_, form)| form)
+        .chain([vec![0x82, high, low]])
+        .collect()
+}
+
+/// A length, written in the shortest form or in another.
+fn some_length(inputs: &mut Inputs, n: usize) -> Vec<u8> {
+    let forms = length_forms(n);
+    let at = match inputs.below(2) {
+        0 => 0,
+        _ => inputs.below(forms.len()),
+    };
+    forms[at].clone()
+}
+
+/// A value that is no template: often none, often one that looks like objects.
+fn some_value(inputs: &mut Inputs) -> Vec<u8> {
+    match inputs.below(8) {
+        0 | 1 => Vec::new(),
+        2 | 3 => [some_tag(inputs), &[0x03, 0x26, 0x10, 0x09]].concat(),
+        4 => {
+            let n = [126, 127, 128, 129, 255, 256, 257][inputs.below(7)];
+            inputs.bytes(n)
+        }
+        5 => vec![0; inputs.below(6)],
+        _ => {
+            let n = inputs.below(12);
+            inputs.bytes(n)
+        }
+    }
+}
+
+impl Record {
+    /// Adds an object. A value too long for a length of two bytes is cut.
+    fn add(&mut self, inputs: &mut Inputs, tag: &[u8], mut value: Record) {
+        value.bytes.truncate(65_535);
+        self.bytes.extend_from_slice(tag);
+        let length = some_length(inputs, value.bytes.len());
+        self.bytes.extend(length);
+        self.bytes.extend(value.bytes);
+        let tag = number(tag);
+        self.paths.push(vec![tag]);
+        let inner = value.paths.into_iter();
+        self.paths
+            .extend(inner.map(|path| [&[tag], &path[..]].concat()));
+    }
+}
+
+/// A record in which the deepest path has `depth` tags; of depth 0, one without an object.
+pub fn some_record(inputs: &mut Inputs, depth: usize) -> Record {
+    if depth == 0 {
+        let bytes = some_value(inputs);
+        return Record {
+            bytes,
+            paths: Vec::new(),
+        };
+    }
+    let mut record = Record::default();
+    let objects = 1 + inputs.below(4);
+    let deepest = inputs.below(objects);
+    for i in 0..objects {
+        let deeper = match i == deepest {
+            true => depth - 1,
+            false => inputs.below(depth),
+        };
+        let value = some_record(inputs, deeper);
+        let tag = some_tag(inputs);
+        record.add(inputs, tag, value);
+        if inputs.below(16) == 0 {
+            record.bytes.extend(vec![0; 1 + inputs.below(4)]);
+        }
+    }
+    record
+}
+
+/// Small objects of many tags, none of them the last of those below, up to a few bytes more than `len`.
+fn small_objects(inputs: &mut Inputs, len: usize) -> Record {
+    let mut record = Record::default();
+    while record.bytes.len() < len {
+        let tag = TAGS[inputs.below(TAGS.len() - 1)];
+        let n = inputs.below(6);
+        let bytes = inputs.bytes(n);
+        let paths = Vec::new();
+        record.add(inputs, tag, Record { bytes, paths });
+    }
+    record
+}
+
+/// A long record of small objects, the last one with a tag of its own; in it a template of the same kind, of `inner` bytes and
+/// a few more. Its paths lead to that last object, at the top and in the template.
+pub fn long_record(inputs: &mut Inputs, outer: usize, inner: usize) -> Record {
+    let (last, template) = (TAGS[TAGS.len() - 1], &[0x7F, 0x4E]);
+    let bytes = vec![0x26, 0x10, 0x09];
+    let paths = Vec::new();
+    let end = Record { bytes, paths };
+    let mut inside = small_objects(inputs, inner);
+    inside.add(inputs, last, end.clone());
+    let mut record = small_objects(inputs, outer);
+    record.add(inputs, template, inside);
+    record.add(inputs, last, end);
+    let (last, template) = (number(last), number(template));
+    record.paths = vec![vec![last], vec![template, last]];
+    record
+}
+
+/// A number that a path may ask for: a tag, one that the readings part on, or none at all.
+fn some_number(inputs: &mut Inputs) -> u32 {
+    match inputs.below(4) {
+        0 => NO_TAGS[inputs.below(NO_TAGS.len())],
+        1 => number(PARTING[inputs.below(PARTING.len())]),
+        _ => number(some_tag(inputs)),
+    }
+}
+
+/// A number next to a tag's: with bytes cut off or added in front or behind, or one bit changed.
+fn near(inputs: &mut Inputs, tag: u32) -> u32 {
+    match inputs.below(7) {
+        0 => tag & 0xFF,
+        1 => tag & 0xFFFF,
+        2 => tag >> 8,
+        3 => tag << 8,
+        4 => tag | 0x0100_0000,
+        5 => tag | (tag << 16),
+        _ => tag ^ (1 << inputs.below(32)),
+    }
+}
+
+/// Paths to look for in a record, of at most 6 tags: none, some that were put in, and some next to those.
+pub fn some_paths(inputs: &mut Inputs, record: &Record) -> Vec<Vec<u32>> {
+    let some = |inputs: &mut Inputs| match record.paths.len() {
+        0 => vec![some_number(inputs)],
+        n => record.paths[inputs.below(n)].clone(),
+    };
+    let mut paths = vec![Vec::new(), some(inputs), some(inputs)];
+    for _ in 0..4 {
+        let mut path = some(inputs);
+        let at = inputs.below(path.len());
+        match inputs.below(5) {
+            0 => path[at] = some_number(inputs),
+            1 => path[at] = near(inputs, path[at]),
+            2 => path.insert(at, some_number(inputs)),
+            3 => path.push(some_number(inputs)),
+            _ => {
+                path.remove(at);
+            }
+        }
+        path.truncate(6);
+        paths.push(path);
+    }
+    paths
+}

@@ -1,0 +1,255 @@
+//! Objects written: run on both sides and compared, with all bytes of the buffer.
+
+use gorvisclen::{Refused, STANDARD_READING};
+use original::command::{BufferFull, DataSource, DataStream};
+use original::tlv::{Tag, Tlv};
+use original::Data;
+
+use super::front::OBJECT;
+use super::lookup::Lookup;
+use super::records::length_forms;
+use crate::inputs::Inputs;
+use crate::lent::{bytes, hex, numbers, Outcome};
+use crate::tally::Tally;
+
+const WRITE: &str = "Tlv::to_writer";
+const TOO_LONG: &str = "Tlv::to_writer, above 65,535 bytes (the Rust's fails, its tag already out)";
+const PAST: &str = "Tlv::to_writer, a place past the buffer's end (no Rust: held to a rule, 16)";
+const READ_BACK: &str =
+    "Tlv::to_writer, then the standard reading (held to a rule: tag and value come back)";
+
+/// Tags of each size, with zero bytes in front, inside and behind; some that no reading takes.
+const TAGS: [[u8; 3]; 22] = [
+    [0x00, 0x00, 0x00],
+    [0x00, 0x00, 0x01],
+    [0x00, 0x00, 0x5A],
+    [0x00, 0x00, 0x1F],
+    [0x00, 0x00, 0xFF],
+    [0x00, 0x5F, 0x24],
+    [0x00, 0x5F, 0x00],
+    [0x00, 0x1F, 0x00],
+    [0x00, 0x01, 0x00],
+    [0x00, 0xFF, 0xFF],
+    [0x00, 0x5F, 0x1E],
+    [0x00, 0x5F, 0x80],
+    [0x5F, 0x24, 0x00],
+    [0x5F, 0x00, 0x24],
+    [0x5F, 0x00, 0x00],
+    [0x01, 0x00, 0x00],
+    [0x7F, 0x81, 0x00],
+    [0xDF, 0x81, 0x01],
+    [0x1F, 0xFF, 0x7F],
+    [0x1F, 0x00, 0x01],
+    [0x80, 0x80, 0x80],
+    [0xFF, 0xFF, 0xFF],
+];
+
+/// One object to write.
+struct Object<'a> {
+    tag: [u8; 3],
+    value: &'a [u8],
+}
+
+impl Object<'_> {
+    fn rust(&self) -> Tlv<&[u8]> {
+        Tlv::new(Tag::from(self.tag), self.value)
+    }
+
+    /// Whether the Rust cannot write a value so long. It has then written the tag, here to a room for no more than that.
+    fn too_long(&self) -> bool {
+        let mut room = Data::<3>::new();
+        let written = self.rust().to_writer(&mut room);
+        let failed = matches!(written, Err(BufferFull::Serialization(_)));
+        if failed {
+            assert_eq!(*room, *Tag::from(self.tag).serialize());
+        }
+        failed
+    }
+
+    /// What writing it counts for.
+    fn operation(&self, buffer_len: usize, at: usize) -> &'static str {
+        if self.value.len() > 65_535 {
+            TOO_LONG
+        } else if at > buffer_len {
+            PAST
+        } else {
+            WRITE
+        }
+    }
+
+    /// Writes as the Rust does to what `buffer` has from the place on, and says how many bytes; a refusal writes nothing here.
+    fn write_by_rust(&self, buffer: &mut [u8], at: usize) -> Result<u64, u8> {
+        if self.too_long() {
+            return Err(19);
+        }
+        let part = buffer.get_mut(at..).ok_or(16)?;
+        let mut copy = part.to_vec();
+        let mut rest = &mut copy[..];
+        let written = self.rust().to_writer(&mut rest);
+        written.map_err(|_| 16)?;
+        let n = part.len() - rest.len();
+        assert_eq!(n, DataSource::len(&self.rust()));
+        part.copy_from_slice(&copy);
+        Ok(n as u64)
+    }
+
+    /// Compares the writing into a buffer of a length, from a place.
+    fn write(&self, tally: &mut Tally, buffer_len: usize, at: usize, len: usize) {
+        let read = [&self.tag, self.value];
+        let (mut buffer, mut out) = (bytes(buffer_len), numbers(len));
+        let reply = match len {
+            0 => Err(16),
+            _ => self.write_by_rust(buffer.part(), at),
+        };
+        let reply = reply.map(|n| out.part()[0] = n).map_err(Refused);
+        let theirs = Outcome::new(reply, out, buffer).reading(&read);
+
+        let (mut buffer, mut out) = (bytes(buffer_len), numbers(len));
+        let reply =
+            gorvisclen::put_data_object(self.tag, self.value, buffer.part(), at, out.part());
+        let ours = Outcome::new(reply, out, buffer).reading(&read);
+
+        let input = || {
+            format!(
+                "tag {}, value {}, buffer of {buffer_len} bytes, from {at}, out of {len} numbers",
+                hex(&self.tag),
+                hex(self.value)
+            )
+        };
+        let operation = self.operation(buffer_len, at);
+        tally.compare(operation, &[], input, &theirs, &ours);
+    }
+
+    /// Buffers that it fits exactly from a place, that are a byte short and a byte longer; and places around the end.
+    fn around_the_end(&self, tally: &mut Tally, before: usize) {
+        let need = DataSource::len(&self.rust());
+        let exact = before + need;
+        for buffer_len in [exact, exact - 1, exact + 1] {
+            self.write(tally, buffer_len, before, 1);
+            self.write(tally, buffer_len, before + 1, 2);
+            self.write(tally, buffer_len, before, 0);
+        }
+        let past = [
+            exact,
+            exact + 1,
+            exact + 65_536,
+            before + (1 << 32),
+            usize::MAX,
+            (usize::MAX - need).wrapping_add(1),
+            (usize::MAX - need).wrapping_add(1 + before),
+        ];
+        for at in past {
+            self.write(tally, exact, at, 1);
+        }
+    }
+}
+
+/// Small buffers: every place from the beginning to past the end, `out` of every length to 2.
+fn every_place(tally: &mut Tally, inputs: &mut Inputs) {
+    for tag in TAGS {
+        for n in [0, 1, 2, 5] {
+            let value = &inputs.bytes(n);
+            let object = Object { tag, value };
+            for buffer_len in 0..=12 {
+                for at in (0..=buffer_len + 3).chain([usize::MAX - 1, usize::MAX]) {
+                    for len in 0..=2 {
+                        object.write(tally, buffer_len, at, len);
+                    }
+                }
+            }
+        }
+    }
+}
+
+/// Values of the lengths around each boundary.
+fn every_boundary(tally: &mut Tally, inputs: &mut Inputs) {
+    let row = &inputs.bytes(131_100);
+    let short = [0, 1, 2, 126, 127, 128, 129, 254, 255, 256, 257, 511, 512];
+    let long = [65_534, 65_535, 65_536, 65_537, 65_541, 65_791, 131_072];
+    for tag in TAGS {
+        for n in short {
+            for before in [0, 1, 7] {
+                let value = &row[..n];
+                Object { tag, value }.around_the_end(tally, before);
+            }
+        }
+    }
+    for tag in [TAGS[2], TAGS[5], TAGS[16]] {
+        for n in long {
+            let value = &row[..n];
+            let object = Object { tag, value };
+            object.around_the_end(tally, inputs.below(3));
+            object.around_the_end(tally, 66_000);
+            // 19 comes before 16.
+            for (buffer_len, at) in [(0, 0), (0, 1), (4, 0), (n, 0), (n, n + 1)] {
+                object.write(tally, buffer_len, at, inputs.below(3));
+            }
+        }
+    }
+}
+
+/// Every first and second byte of a tag.
+fn every_tag(tally: &mut Tally, inputs: &mut Inputs) {
+    for front in 0..=u16::MAX {
+        let [b1, b2] = front.to_be_bytes();
+        for b3 in [0x00, 0x01, 0x1F, 0x80, 0xFF] {
+            let n = inputs.below(3);
+            let value = &inputs.bytes(n);
+            let tag = [b1, b2, b3];
+            Object { tag, value }.write(tally, 8, inputs.below(4), 1);
+        }
+    }
+}
+
+/// Every tag that the standard reading takes.
+fn accepted() -> Vec<[u8; 3]> {
+    let mut tags = Vec::new();
+    for b1 in 0..=255 {
+        if b1 % 32 != 31 {
+            tags.push([0, 0, b1]);
+            continue;
+        }
+        tags.extend((0x1F..=0x7F).map(|b2| [0, b1, b2]));
+        for b2 in 0x81..=0xFF {
+            tags.extend((0x00..=0x7F).map(|b3| [b1, b2, b3]));
+        }
+    }
+    tags
+}
+
+/// Each of them, written and then read in the standard reading, comes back with its value.
+fn read_back(tally: &mut Tally, inputs: &mut Inputs) {
+    for tag in accepted() {
+        let n = match inputs.below(64) {
+            0 => [127, 128, 255, 256][inputs.below(4)],
+            _ => inputs.below(4),
+        };
+        let (value, at) = (&inputs.bytes(n)[..], inputs.below(3));
+        let mut buffer = vec![0xEE; at + n + 6];
+        // A refusal leaves nothing to read, which is then seen.
+        let _ = gorvisclen::put_data_object(tag, value, &mut buffer, at, &mut [0]);
+
+        let record = &buffer[at..];
+        let (number, tag_len) = match tag {
+            [0, 0, b3] => (u32::from(b3), 1),
+            [0, b2, b3] => (u32::from_be_bytes([0, 0, b2, b3]), 2),
+            [b1, b2, b3] => (u32::from_be_bytes([0, b1, b2, b3]), 3),
+        };
+        let place = tag_len + length_forms(n)[0].len();
+        let answer = [number.into(), place as u64, n as u64];
+        OBJECT.written(tally, READ_BACK, (STANDARD_READING, record), Ok(answer));
+        let lookup = Lookup {
+            reading: STANDARD_READING,
+            record,
+            path: &[number],
+        };
+        lookup.written(tally, READ_BACK, Ok((place, value)));
+    }
+}
+
+pub fn compare(tally: &mut Tally, inputs: &mut Inputs) {
+    every_place(tally, inputs);
+    every_boundary(tally, inputs);
+    every_tag(tally, inputs);
+    read_back(tally, inputs);
+}
