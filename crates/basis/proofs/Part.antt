@@ -14,7 +14,7 @@ use Rattle.basis.specs.Part.{over, put}
 pub rest-is : (n : ℕ) (l : List ℕ) → take (length l - n) (drop n l) ≡ drop n l
 rest-is n l = take-all (length l - n) (drop n l) (simp length-drop (omega arith))
 
-drop-take : (s n : ℕ) (l : List ℕ) → drop s (take n l) ≡ take (n - s) (drop s l)
+pub drop-take : (s n : ℕ) (l : List ℕ) → drop s (take n l) ≡ take (n - s) (drop s l)
 drop-take zero n l = rw sub-zero
 drop-take (suc s) zero l = rw zero-sub
 drop-take (suc s) (suc n) [] = rw take-nil

@@ -1,5 +1,5 @@
 -- The lookup of a path. Document 01, "BER records" (lookup of a path) and "Numbers of refusal" (11, 12).
-use Prim.Native.Nat.{ℕ, zero, suc, _+_}
+use Prim.Native.Nat.{ℕ, zero, suc, _+_, _-_}
 use mathlib.Core.Path.{_≡_}
 use mathlib.Core.Bool.{cond}
 use mathlib.Core.List.{List, [], _∷_}
@@ -16,9 +16,12 @@ pub record Span : Type 0 where
   pub at : ℕ
   pub len : ℕ
 
--- the bytes of a part, and the part that is all of a record
+-- the bytes of a part; the part from a place to an end; the part that is all of a record
 abbrev pub part : List ℕ → Span → List ℕ
 part s p = take (p .len) (drop (p .at) s)
+
+abbrev pub between : ℕ → ℕ → Span
+between a e = record { at = a; len = e - a }
 
 abbrev pub whole : List ℕ → Span
 whole s = record { at = 0; len = length s }

@@ -7,15 +7,12 @@ use mathlib.Core.List.{List}
 use lib.ListN.{length, getD, drop, take, length-take, length-drop}
 use Rattle.basis.specs.Reply.{is}
 use Rattle.basis.proofs.Reply.{all-is}
-use Rattle.tlv.specs.Lookup.{Span, part, seek, follow, lookup, said}
+use Rattle.tlv.specs.Lookup.{Span, part, between, seek, follow, lookup, said}
 use Rattle.tlv.specs.declared.Reading.{Reading}
 use Rattle.tlv.proofs.Within.{Lies, seek-within}
 use Rattle.tlv.proofs.Walk.{follow-no, follow-next, follow-end}
 use Rattle.tlv.proofs.lookup.get_data_object.Statement.{statement}
 use Rattle.tlv.proofs.lookup.get_data_object.Tie as tie
-
-abbrev between : ℕ → ℕ → Span
-between at end = record { at = at; len = end - at }
 
 -- what the path leads to in the record is what its rest leads to in the part from `at` to `end`
 abbrev Inv-loop : tie.InvT-loop
@@ -31,7 +28,7 @@ abbrev Found : Type 0
 Found = tie.After-place Inv-loop μ-loop
 
 abbrev turn : Found → tie.In-loop Inv-loop μ-loop
-turn c = c .before .before .before .before .before
+turn c = c .before .before .before .before
 
 abbrev by : Found → Reading
 by c = turn c .before .before .before .before .args .reading
@@ -70,13 +67,13 @@ entered c = rw add-sub-cancel-left
 returns : tie.Need-returns Inv-loop μ-loop
 returns c =
     let k = c .before .before in
-    let t = k .before .before .before in
+    let t = k .before .before in
     sym (t .before .loop .inv .0 ∙ follow-no _ _ _ _ _ 11 (t .loop-test .taken) (sym (k .seek .ensures) ∙ ap said (c .enum-told .given .1)))
 
 returns-2 : tie.Need-returns-2 Inv-loop μ-loop
 returns-2 c =
     let k = c .before .before in
-    let t = k .before .before .before in
+    let t = k .before .before in
     sym (t .before .loop .inv .0 ∙ follow-no _ _ _ _ _ 12 (t .loop-test .taken) (sym (k .seek .ensures) ∙ ap said (c .enum-told2 .given .1)))
 
 loop-again : tie.Need-loop-again Inv-loop μ-loop
@@ -98,10 +95,7 @@ get-data-object-spec =
     (λ c. (rw sub-zero, omega arith, omega arith, omega arith))
     (λ c. search needs)
     (λ c. search needs)
-    (λ c. search needs)
-    (λ c. search needs)
-    (λ c. search needs)
-    (λ c κs. simp (length-take, length-drop) (omega arith))
+    (λ c κs. search needs)
     (λ c. search needs)
     returns
     (λ c. search needs)
