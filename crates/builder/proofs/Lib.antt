@@ -1,0 +1,4 @@
+pub mod Lengths
+pub mod Fitting
+pub mod Same
+pub mod Single

@@ -1,0 +1,88 @@
+// The bytes of a command, written into a lent buffer.
+ghost use mathlib.Core.Path.{_≡_};
+ghost use Prim.Native.Nat.{_+_, _≤_};
+ghost use lib.ListN.{length};
+ghost use Rattle.basis.specs.Part.{over, put};
+ghost use Rattle.builder.specs.Bytes.{header, field, laid, Fits, serialize-into-is};
+use crate::CommandBuilder;
+use crate::sizes::Fields;
+use crate::sizes::Length;
+use crate::sizes::sizes;
+
+fn put_header(builder: CommandBuilder, to: &mut [u8])
+    requires { ⌜ 4 ≤ length (now to) ⌝ }
+    ensures { λ _. ⌜ now (to .exit) ≡ over (header builder) (now (to .entry)) ⌝ }
+{
+    let class = builder.class;
+    to[0] = class.into_inner();
+    to[1] = builder.instruction;
+    to[2] = builder.p1;
+    to[3] = builder.p2;
+}
+
+// A length field of no byte, one, two, or a zero byte and two.
+fn put_field(size: usize, n: usize, to: &mut [u8])
+    requires { ⌜ (size ≤ 3) × (size ≤ length (now to)) ⌝ }
+    ensures { λ _. ⌜ now (to .exit) ≡ over (field size n) (now (to .entry)) ⌝ }
+{
+    let low = (n % 256) as u8;
+    if size == 0 {
+        return;
+    }
+    if size == 1 {
+        to[0] = low;
+        return;
+    }
+    let high = (n / 256 % 256) as u8;
+    if size == 2 {
+        to[0] = high;
+        to[1] = low;
+        return;
+    }
+    to[0] = 0;
+    to[1] = high;
+    to[2] = low;
+}
+
+fn put_data(data: &[u8], to: &mut [u8])
+    requires { ⌜ length (now «data») ≤ length (now to) ⌝ }
+    ensures { λ _. ⌜ now (to .exit) ≡ over (now («data» .entry)) (now (to .entry)) ⌝ }
+{
+    bytes::copy(data, to);
+}
+
+// The four fields of a command that fits, each written into the part that starts at its place.
+fn put_command(builder: CommandBuilder, sizes: Fields, data: &[u8], buffer: &mut [u8], at: usize)
+    requires { ⌜ Fits sizes (length (now «data»)) (length (now buffer)) at ⌝ }
+    ensures { λ _. ⌜ now (buffer .exit) ≡ put at (laid builder sizes (now («data» .entry))) (now (buffer .entry)) ⌝ }
+{
+    put_header(builder, &mut buffer[at..]);
+    let at_lc = at + 4;
+    put_field(sizes.lc, data.len(), &mut buffer[at_lc..]);
+    let at_data = at_lc + sizes.lc;
+    put_data(data, &mut buffer[at_data..]);
+    let at_le = at_data + data.len();
+    put_field(sizes.le, sizes.shown, &mut buffer[at_le..]);
+}
+
+impl CommandBuilder {
+    // Writes the command with these data into a buffer from a place.
+    pub fn serialize_into(self, data: &[u8], buffer: &mut [u8], at: usize) -> Length
+        ensures { λ r. ⌜ serialize-into-is self (now («data» .entry)) (now (buffer .entry)) at r (now (buffer .exit)) ⌝ }
+    {
+        let n = data.len();
+        if 65535 < n {
+            return Length::Refused(13);
+        }
+        if buffer.len() < at {
+            return Length::Refused(16);
+        }
+        let sizes = sizes(self, n);
+        let len = 4 + sizes.lc + n + sizes.le;
+        if buffer.len() - at < len {
+            return Length::Refused(16);
+        }
+        put_command(self, sizes, data, buffer, at);
+        Length::Bytes(len)
+    }
+}

@@ -1,0 +1,5 @@
+pub mod Shown
+pub mod Read
+pub mod Pieces
+pub mod Made
+pub mod Written

@@ -1,0 +1,53 @@
+-- What is written, read back. Document 01, "Command body" and "Building and cutting": in both readings the same header, data and
+-- expected length, which short mode lowered to at most 256 and where Max is 65,536.
+use Prim.Native.Nat.{ℕ, _+_, _≤_, _<_}
+use mathlib.Core.Path.{_≡_}
+use mathlib.Core.Bool.{Bool, true, false, cond}
+use lib.Dec.{eqb}
+use Rattle.command.specs.declared.CommandView.{CommandView}
+use Rattle.builder.specs.Bytes.{wide, shown, lcLen}
+use Rattle.builder.specs.declared.ExpectedLen.{ExpectedLen}
+use Rattle.builder.specs.declared.ExpectedLen.the-variants.{Ne, Max}
+use Rattle.builder.specs.declared.ExtendedLen.the-variants.{Unsupported, Forced}
+use Rattle.builder.specs.declared.CommandBuilder.{CommandBuilder}
+
+-- an expected length: 0 to 65,535, or Max
+abbrev pub Expected : ExpectedLen → Type 0
+Expected (Ne n) = n ≤ 65535
+Expected Max = Unit {0}
+
+-- there are n data bytes or an Le of e
+unfoldable pub hasLengths : ℕ → ℕ → Bool
+hasLengths n e = cond (eqb n 0) (cond (eqb e 0) false true) true
+
+-- a builder's command with n data bytes has extended lengths where they are wide, and it has any
+unfoldable pub extendedFor : CommandBuilder → ℕ → Bool
+extendedFor b n = cond (wide (b .mode) n (shown b)) (hasLengths n (shown b)) false
+
+-- what it is read as: the builder's header and expected length, and n data bytes behind the header and Lc
+abbrev pub viewFor : CommandBuilder → ℕ → CommandView
+viewFor b n =
+    record {
+      class = b .class;
+      instruction = b .instruction;
+      p1 = b .p1;
+      p2 = b .p2;
+      at = 4 + lcLen b n;
+      len = n;
+      le = shown b;
+      extended = extendedFor b n;
+    }
+
+-- which expected length that is
+pub record LeRead (b : CommandBuilder) : Type 0 where
+  pub number : (n : ℕ) → b .le ≡ Ne n → (b .mode ≡ Unsupported → n ≤ 256) → shown b ≡ n
+  pub number-lowered : (n : ℕ) → b .le ≡ Ne n → b .mode ≡ Unsupported → 256 < n → shown b ≡ 256
+  pub most : b .le ≡ Max → (b .mode ≡ Unsupported → ⊥) → shown b ≡ 65536
+  pub most-lowered : b .le ≡ Max → b .mode ≡ Unsupported → shown b ≡ 256
+
+-- when that is extended
+pub record ExtendedRead (b : CommandBuilder) (n : ℕ) : Type 0 where
+  pub data-long : 255 < n → extendedFor b n ≡ true
+  pub le-large : 256 < shown b → extendedFor b n ≡ true
+  pub forced : b .mode ≡ Forced → 1 ≤ n + shown b → extendedFor b n ≡ true
+  pub short : n ≤ 255 → shown b ≤ 256 → (b .mode ≡ Forced → n + shown b ≡ 0) → extendedFor b n ≡ false
