@@ -5,12 +5,12 @@ use mathlib.Core.Path.{_≡_}
 use mathlib.Core.Bool.{cond}
 use mathlib.Core.List.{List, [], _∷_}
 use lib.Dec.{eqb}
-use Rattle.basis.specs.Reply.{Reply, is, then}
+use Rattle.basis.specs.Reply.{Reply, is, no, then}
 use Rattle.tell.specs.Answers.{Copied}
 use Rattle.tlv.specs.Tag.{tagOf}
 use Rattle.tlv.specs.Len.{lenOf}
 use Rattle.tlv.specs.Object.{objectOf}
-use Rattle.tlv.specs.Lookup.{lookup, valueIn}
+use Rattle.tlv.specs.Lookup.{Span, part, lookup}
 use Rattle.tlv.specs.declared.Reading.{Reading}
 use Rattle.tlv.specs.declared.Reading.the-variants.{Crate, Standard}
 
@@ -34,6 +34,11 @@ ofObject n s = then (objectOf (readingNumbered n) s) (λ o. is (o .tag ∷ o .at
 abbrev pub reading-is : ℕ → Reading → Type 0
 reading-is n r = r ≡ readingNumbered n
 
--- the promise of `gorvisclen_value`: the value found, copied and counted; no bytes where there is none
+-- a value found, copied and counted; a refused lookup changes nothing (11 and 12 are below 16)
+abbrev pub CopiedBy : Reply Span → List ℕ → List ℕ → List ℕ → ℕ → List ℕ → List ℕ → Type 0
+CopiedBy (is p) s to out r to′ out′ = Copied (part s p) to out r to′ out′
+CopiedBy (no k) s to out r to′ out′ = (r ≡ k) × (to′ ≡ to) × (out′ ≡ out)
+
+-- the promise of `gorvisclen_value`
 abbrev pub ValueCopied : ℕ → List ℕ → List ℕ → List ℕ → List ℕ → ℕ → List ℕ → List ℕ → Type 0
-ValueCopied n s path to out r to′ out′ = Copied (valueIn s (lookup (readingNumbered n) s path)) to out r to′ out′
+ValueCopied n s path to out r to′ out′ = CopiedBy (lookup (readingNumbered n) s path) s to out r to′ out′

@@ -4,6 +4,7 @@ ghost use Rattle.tell.specs.Answers.{Answers};
 ghost use Rattle.exports_tlv.specs.Numbers.{reading-is, ofTag, ofLen, ofObject, ValueCopied};
 use tell::refuse;
 use tell::tell;
+use tlv::GetDataObject;
 use tlv::Reading;
 use tlv::TakeDataObject;
 use tlv::TakeLen;
@@ -71,6 +72,10 @@ pub extern "C" fn gorvisclen_value(
     ensures { λ r. ⌜ ValueCopied reading (now («record» .entry)) (now (path .entry)) (now (to .entry)) (now (out .entry)) r
         (now (to .exit)) (now (out .exit)) ⌝ }
 {
-    let part = tlv::value(reading_numbered(reading), record, path);
-    tell::copy(part, to, out)
+    let by = reading_numbered(reading);
+    match tlv::get_data_object(by, record, path) {
+        GetDataObject::End => 11,
+        GetDataObject::Unreadable => 12,
+        GetDataObject::Value(_, _) => tell::copy(tlv::value(by, record, path), to, out),
+    }
 }

@@ -1,12 +1,28 @@
 use borrow.Author.Needs.{needs}
+use mathlib.Core.Path.{_≡_, refl, sym, ap, _∙_}
+use lib.ListN.{length}
+use Rattle.tlv.specs.Lookup.{valueIn, said}
 use Rattle.exports_tlv.proofs.gorvisclen_value.Statement.{statement}
 use Rattle.exports_tlv.proofs.gorvisclen_value.Tie as tie
 
 returns : tie.Need-returns
 returns c =
+    let g = c .before .before in
+    rw (← g .before .reading-numbered .ensures, sym (g .get-data-object .ensures) ∙ ap said (c .enum-told .given .1)) (refl, refl, refl)
+
+returns-2 : tie.Need-returns-2
+returns-2 c =
+    let g = c .before .before in
+    rw (← g .before .reading-numbered .ensures, sym (g .get-data-object .ensures) ∙ ap said (c .enum-told2 .given .1)) (refl, refl, refl)
+
+returns-3 : tie.Need-returns-3
+returns-3 c =
     let y = c .before .before .before .before in
     let v = y .before .before .before in
-    rw (← v .before .reading-numbered .ensures, ← v .value .ensures) (y .copy .ensures)
+    let g = v .before .before .before in
+    let a = g .before .before .before .before .before .before .args in
+    let e = sym (g .get-data-object .ensures) ∙ ap said (v .before .enum-told3 .given .1) in
+    rw (← g .before .reading-numbered .ensures, e, ← v .value .ensures ∙ ap (valueIn (a .«record» .now)) e) (y .copy .ensures)
 
 pub gorvisclen-value-spec : {M : Type 1} → statement M
 gorvisclen-value-spec =
@@ -14,7 +30,13 @@ gorvisclen-value-spec =
     (tie.spec
     (λ c κs. search needs)
     (λ c κs. search needs)
+    (λ c. search needs)
+    (λ c. search needs)
+    (λ c. search needs)
     (λ c κs. search needs)
+    (λ c κs. search needs)
+    returns
+    returns-2
     (λ c. search needs)
     (λ c. search needs)
-    returns)
+    returns-3)

@@ -90,11 +90,12 @@ impl Lookup<'_> {
         tally.compare(operation, of_numbers, || self.shown(len), &theirs, &ours);
     }
 
-    /// What copying the value has to leave: no bytes where there is none.
-    fn copied(&self, value: &[u8], to_len: usize, len: usize) -> Outcome {
+    /// What copying the value has to leave: a lookup that is refused changes nothing.
+    fn copied(&self, value: Result<&[u8], u8>, to_len: usize, len: usize) -> Outcome {
         let (mut to, mut out) = (bytes(to_len), numbers(len));
-        let reply = or_short(Ok(()), to_len >= value.len() && len >= 1);
-        if reply.is_ok() {
+        let fits = value.is_ok_and(|value| to_len >= value.len() && len >= 1);
+        let reply = or_short(value.map(|_| ()), fits);
+        if let (Ok(()), Ok(value)) = (reply, value) {
             to.part()[..value.len()].copy_from_slice(value);
             out.part()[0] = value.len() as u64;
         }
@@ -115,8 +116,8 @@ impl Lookup<'_> {
             CRATE_READING => ABOVE_VALUE,
             _ => STANDARD_VALUE,
         };
-        let part = self.found().unwrap_or(0..0);
-        let theirs = self.copied(&self.record[part], to_len, len);
+        let value = self.found().map(|part| &self.record[part]);
+        let theirs = self.copied(value, to_len, len);
         let ours = self.call_value(to_len, len);
         let input = || format!("{}, to of {to_len} bytes", self.shown(len));
         tally.compare(operation, &[], input, &theirs, &ours);
@@ -135,8 +136,8 @@ impl Lookup<'_> {
         let input = || self.shown(LOOKUP_NUMBERS);
         tally.compare(operation, &[], input, &demanded, &ours);
 
-        let value = answer.map_or(&[][..], |(_, value)| value);
-        let to_len = value.len() + 2;
+        let value = answer.map(|(_, value)| value);
+        let to_len = value.map_or(2, |value| value.len() + 2);
         let demanded = self.copied(value, to_len, 1);
         let ours = self.call_value(to_len, 1);
         let input = || format!("{}, to of {to_len} bytes", self.shown(1));
