@@ -38,3 +38,7 @@ unfolding commandOf requiredLen
 length-command b d =
     let n = length d in
     simp (length-append, length-field (lcLen b n) n (lc-small b n), length-field (leLen b n) (shown b) (le-small b n)) (omega arith)
+
+pub required-is : (b : CommandBuilder) (n : ℕ) → requiredLen b n ≡ 4 + lcLen b n + n + leLen b n
+unfolding requiredLen
+required-is b n = refl

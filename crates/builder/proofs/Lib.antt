@@ -1,3 +1,4 @@
+pub mod Data
 pub mod Lengths
 pub mod Fitting
 pub mod Same

@@ -40,9 +40,9 @@ fn same_header(builder: CommandBuilder, view: CommandView) -> bool
 }
 
 impl CommandBuilder {
-    // Whether the command with these data is a command that was read, of these numbers and data.
-    pub fn eq(self, data: &[u8], view: CommandView, read: &[u8]) -> Comparison
-        ensures { λ r. ⌜ eq-is self (now («data» .entry)) view (now (read .entry)) r ⌝ }
+    // Whether a builder and its data equal a command that was read: its numbers, and its data.
+    pub fn eq(self, data: &[u8], view: CommandView, other: &[u8]) -> Comparison
+        ensures { λ r. ⌜ eq-is self (now («data» .entry)) view (now (other .entry)) r ⌝ }
     {
         if 65535 < data.len() {
             return Comparison::Refused(13);
@@ -54,7 +54,7 @@ impl CommandBuilder {
         if compared(le) != view.le {
             return Comparison::Different;
         }
-        if check::same(data, read) {
+        if check::same(data, other) {
             return Comparison::Equal;
         }
         Comparison::Different

@@ -36,11 +36,13 @@ pub struct CommandBuilder {
     pub mode: ExtendedLen,
 }
 
+// A builder; a class byte 0xFF (3), data above 65,535 bytes (13), or extended lengths forced where they are unsupported (15).
 pub enum Built {
     Builder(CommandBuilder),
     Refused(u8),
 }
 
+// The builder in the mode forced.
 fn forced(builder: CommandBuilder) -> Built
     ensures { λ r. ⌜ said r ≡ is (inMode builder Forced) ⌝ }
 {
@@ -58,6 +60,7 @@ fn forced(builder: CommandBuilder) -> Built
 }
 
 impl CommandBuilder {
+    // Makes a builder. The data are only measured: each operation is handed them again.
     pub fn new(
         class: u8,
         instruction: u8,
@@ -87,6 +90,7 @@ impl CommandBuilder {
         }
     }
 
+    // The builder with extended lengths always.
     pub fn force_extended(self) -> Built
         ensures { λ r. ⌜ force-extended-is self r ⌝ }
     {

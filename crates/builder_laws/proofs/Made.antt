@@ -39,13 +39,13 @@ module _ (c i p q n : ℕ) (e : ExpectedLen) (m : ExtendedLen) where
         fields = rw (h .1);
       }))
 
-  pub new-read : (b : CommandBuilder) → newOf c i p q n e m ≡ is b → Made c i p q n e m b
-  new-read b h = all-is (Made c i p q n e m) (newOf c i p q n e m) b all-made h
+  pub new-made : (b : CommandBuilder) → newOf c i p q n e m ≡ is b → Made c i p q n e m b
+  new-made b h = all-is (Made c i p q n e m) (newOf c i p q n e m) b all-made h
 
 -- so its command is, with the data that it was made for
 pub made-read : (r : Reading) (c i p q : ℕ) (d : List ℕ) (e : ExpectedLen) (m : ExtendedLen) (b : CommandBuilder)
     → newOf c i p q (length d) e m ≡ is b → Expected e → ReadAs r (commandOf b d) (viewFor b (length d)) d
 made-read r c i p q d e m b h l =
-    let made = new-read c i p q (length d) e m b h in
+    let made = new-made c i p q (length d) e m b h in
     let le : b .le ≡ e = ap (λ (x : CommandBuilder). x .le) (made .fields) in
     built-read r b d (made .class) (rw le l) (made .few)

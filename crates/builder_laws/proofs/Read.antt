@@ -41,7 +41,7 @@ neither true y e = absurd (true≢false e)
 neither false y e = (refl, e)
 
 -- lengths that are not extended are small
-narrow : (m : ExtendedLen) (n e : ℕ) → wide m n e ≡ false → (n ≤ 255) × (e ≤ 256)
+pub narrow : (m : ExtendedLen) (n e : ℕ) → wide m n e ≡ false → (n ≤ 255) × (e ≤ 256)
 unfolding wide
 narrow m n e h =
     let g = neither (ltb 255 n) (cond (ltb 256 e) true (isForced m)) h in

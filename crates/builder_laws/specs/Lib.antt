@@ -1,3 +1,4 @@
 pub mod Read
 pub mod Pieces
 pub mod Made
+pub mod Cases

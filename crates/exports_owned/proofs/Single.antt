@@ -10,11 +10,16 @@ use Rattle.command.specs.declared.CommandView.{CommandView}
 use Rattle.tell.specs.Answers.{fitting}
 use Rattle.tell.proofs.Single.{copy}
 use Rattle.exports_command.specs.Numbers.{readingNumbered}
-use Rattle.exports_owned.specs.Copies.{DataCopied, OwnedCopied, ExtendsBy, Extended}
+use Rattle.exports_owned.specs.Copies.{CopiedBy, DataCopied, OwnedCopied, ExtendsBy, Extended}
+
+data-once : (v : Reply CommandView) (s to out : List ℕ) (r q : ℕ) (a b x y : List ℕ) → CopiedBy v s to out r a x
+    → CopiedBy v s to out q b y → (r ≡ q) × (a ≡ b) × (x ≡ y)
+data-once (is v) s to out r q a b x y h g = copy (dataIn s (is v)) to out r q a b x y h g
+data-once (no k) s to out r q a b x y h g = (h .0 ∙⁻¹ g .0, h .1 ∙⁻¹ g .1, h .2 ∙⁻¹ g .2)
 
 pub gorvisclen-command-data : (n : ℕ) (s to out : List ℕ) (r q : ℕ) (a b x y : List ℕ) → DataCopied n s to out r a x
     → DataCopied n s to out q b y → (r ≡ q) × (a ≡ b) × (x ≡ y)
-gorvisclen-command-data n s to out r q a b x y h g = copy (dataIn s (parse (readingNumbered n) s)) to out r q a b x y h g
+gorvisclen-command-data n s = data-once (parse (readingNumbered n) s) s
 
 pub gorvisclen-command-owned : (n : ℕ) (s room out : List ℕ) (r q : ℕ) (a b x y : List ℕ)
     → OwnedCopied (readingNumbered n) s room out r a x → OwnedCopied (readingNumbered n) s room out q b y → (r ≡ q) × (a ≡ b) × (x ≡ y)

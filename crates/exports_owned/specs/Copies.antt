@@ -12,12 +12,17 @@ use Rattle.command.specs.Command.{parse, dataIn}
 use Rattle.command.specs.Owned.{takenOf, ownedOf, copied, fitting as extending, heldAfter, extendedRoom}
 use Rattle.command.specs.declared.CommandView.{CommandView}
 use Rattle.command.specs.declared.owned.Command.{Command}
-use Rattle.tell.specs.Answers.{flagOf, fitting, written, Copied}
+use Rattle.tell.specs.Answers.{flagOf, fitting, written, Copied, refuse-is}
 use Rattle.exports_command.specs.Numbers.{readingNumbered}
 
--- the promise of `gorvisclen_command_data`: the data, copied and counted
+-- the data of a command that was read, copied and counted; a refusal changes nothing
+abbrev pub CopiedBy : Reply CommandView → List ℕ → List ℕ → List ℕ → ℕ → List ℕ → List ℕ → Type 0
+CopiedBy (is v) s to out r to′ out′ = Copied (dataIn s (is v)) to out r to′ out′
+CopiedBy (no k) s to out r to′ out′ = refuse-is k (length out) 1 r × (to′ ≡ to) × (out′ ≡ out)
+
+-- the promise of `gorvisclen_command_data`
 abbrev pub DataCopied : ℕ → List ℕ → List ℕ → List ℕ → ℕ → List ℕ → List ℕ → Type 0
-DataCopied n s to out r to′ out′ = Copied (dataIn s (parse (readingNumbered n) s)) to out r to′ out′
+DataCopied n s to out r to′ out′ = CopiedBy (parse (readingNumbered n) s) s to out r to′ out′
 
 -- class, instruction, P1, P2, length of the data, expected length, extended: the data stand at the room's beginning
 unfoldable pub commandNumbers : Command → List ℕ

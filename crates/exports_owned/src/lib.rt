@@ -44,8 +44,11 @@ pub extern "C" fn gorvisclen_command_data(
 ) -> u8
     ensures { λ r. ⌜ DataCopied reading (now (apdu .entry)) (now (to .entry)) (now (out .entry)) r (now (to .exit)) (now (out .exit)) ⌝ }
 {
-    let part = command::data(reading_numbered(reading), apdu);
-    tell::copy(part, to, out)
+    let by = reading_numbered(reading);
+    match CommandView::try_from(by, apdu) {
+        Parsed::Refused(k) => refuse(k, out.len(), 1),
+        Parsed::View(_) => tell::copy(command::data(by, apdu), to, out),
+    }
 }
 
 // The status where `out` is too short for an owned copy's numbers.

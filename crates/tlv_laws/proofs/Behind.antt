@@ -1,6 +1,6 @@
 -- What lies behind a match is not seen: document 01, "BER records" (lookup of a path). Assumes nothing.
 use Prim.Native.Nat.{ℕ, zero, suc, _+_, _-_, _≤_}
-use mathlib.Core.Path.{_≡_, refl, sym, _∙_}
+use mathlib.Core.Path.{_≡_, refl, sym, ap, _∙_}
 use mathlib.Core.List.{List, [], _∷_, _++_}
 use native.Mathlib.Nat.{zero-add, add-sub-cancel-left}
 use native.Mathlib.Omega.{arith}
@@ -9,20 +9,21 @@ use lib.ListN.{length, take, drop, length-take, length-drop, length-append}
 use lib.Seq.{take-take, take-length, take-append-le}
 use borrow.Author.Tests.{eqb-true, eqb-false}
 use Rattle.basis.specs.Reply.{Reply, is, then}
-use Rattle.basis.proofs.Reply.{All, all-is, all-cond, all-then, all-weaken}
+use Rattle.basis.proofs.Reply.{All, all-is, all-cond, all-then, all-weaken, then-same}
 use Rattle.tlv.specs.Object.{sizeOf, objectOf}
-use Rattle.tlv.specs.Lookup.{Span, part, seekIn, seek, follow, lookup}
+use Rattle.tlv.specs.Lookup.{Span, part, whole, seekIn, seek, follow, lookup}
 use Rattle.tlv.specs.declared.Reading.{Reading}
 use Rattle.tlv.proofs.Within.{Ends, Lies, object-within, seek-within, lookup-within}
 use Rattle.tlv.proofs.Walk.{seek-here, seek-next}
-use Rattle.tlv_laws.proofs.Choice.{all-self, all-both}
+use Rattle.tlv_laws.proofs.Choice.{by-reply, all-self, all-both}
 use Rattle.tlv_laws.proofs.Front.{front-less, front-rest, object-front}
 
--- a list s′ that is not shorter and has the bytes of s in front, up to a value found at a level
+-- a list s′ that has the bytes of s in front, up to a value found at a level, and room for that value
 module _ (r : Reading) (t : ℕ) where
   abbrev Kept : ℕ → List ℕ → Span → Type 0
   Kept a s p =
-      (a ≤ p .at) × ((s′ : List ℕ) → take (p .at - a) s′ ≡ take (p .at - a) s → length s ≤ length s′ → seek r t a s′ ≡ is p)
+      (a ≤ p .at)
+      × ((s′ : List ℕ) → take (p .at - a) s′ ≡ take (p .at - a) s → p .at + p .len ≤ a + length s′ → seek r t a s′ ≡ is p)
 
   walk-front : (n a : ℕ) (s : List ℕ) → All (Kept a s) (seekIn n r t a s)
   unfolding seekIn
@@ -48,7 +49,7 @@ module _ (r : Reading) (t : ℕ) where
       (walk-front n (a + k) (drop k s))))
 
   pub seek-front : (a : ℕ) (s s′ : List ℕ) (p : Span) → seek r t a s ≡ is p → take (p .at - a) s′ ≡ take (p .at - a) s
-      → length s ≤ length s′ → seek r t a s′ ≡ is p
+      → p .at + p .len ≤ a + length s′ → seek r t a s′ ≡ is p
   unfolding seek
   seek-front a s s′ p e = all-is (Kept a s) (seek r t a s) p (walk-front (length s) a s) e .1 s′
 
@@ -83,7 +84,7 @@ module _ (r : Reading) (s s′ : List ℕ) (long : length s ≤ length s′) whe
       let N : Span → Type 0 = λ q. take (q .at) s′ ≡ take (q .at) s → follow r s′ m path ≡ is q in
       all-weaken P (λ q. L q × N q) (follow r s m path) (λ q w f.
       let front = same (m .at - a) (omega arith) (front-less s s′ (q .at) f (a + (m .at - a)) (omega (arith, w .0))) in
-      rw (seek-front r t a (b s) (b s′) m e front more) (w .1 f))
+      rw (seek-front r t a (b s) (b s′) m e front (omega arith)) (w .1 f))
       (all-both L N (follow r s m path) (follow-inside r s m path) (deeper m)))
 
   follow-front : (path : List ℕ) (p : Span) → Stays (λ l. follow r l p path)
@@ -115,3 +116,49 @@ pub path-behind-unseen : (r : Reading) (s u : List ℕ) (t : ℕ) (path : List �
 path-behind-unseen r s u t path p e =
     let l = all-is (Lies 0 (length s)) (lookup r s (t ∷ path)) p (lookup-within r s (t ∷ path)) e in
     lookup-front r s (s ++ u) (simp length-append (omega arith)) t path p e (take-append-le (p .at) s u (omega arith))
+
+-- within a part that has the same bytes, a path is followed the same way, found or refused
+follow-entered : (r : Reading) (s s′ : List ℕ) (path : List ℕ) (q : Span)
+    → take (q .at + q .len) s′ ≡ take (q .at + q .len) s → follow r s′ q path ≡ follow r s q path
+unfolding follow
+follow-entered r s s′ [] q e = refl
+follow-entered r s s′ (t ∷ path) q e =
+    let b = part s q in
+    let x = seek r t (q .at) b in
+    rw (front-rest s s′ (q .at + q .len) e (q .at) (q .len) refl)
+    (then-same (Lies (q .at) (q .at + length b)) x _ _ (seek-within r t (q .at) b) (λ m l.
+    follow-entered r s s′ path m (front-less s s′ (q .at + q .len) e (m .at + m .len)
+    (omega (arith, length-take (q .len) (drop (q .at) s))))))
+
+-- nothing behind an object that was entered is seen, cut off, changed or added, whether the rest of the path is found or refused
+pub entered-behind-unseen : (r : Reading) (s s′ : List ℕ) (t : ℕ) (path : List ℕ) (q : Span) → seek r t 0 s ≡ is q
+    → take (q .at + q .len) s′ ≡ take (q .at + q .len) s → lookup r s′ (t ∷ path) ≡ lookup r s (t ∷ path)
+unfolding follow
+entered-behind-unseen r s s′ t path q e same =
+    let l = all-is (Lies 0 (length s)) (seek r t 0 s) q (rw zero-add at (seek-within r t 0 s)) e in
+    let n = q .at + q .len in
+    let room : n ≤ length s′ = omega (arith, ap length same, length-take n s, length-take n s′) in
+    rw (
+      take-length s,
+      take-length s′,
+      e,
+      seek-front r t 0 s s′ q e (front-less s s′ n same (q .at - 0) (omega arith)) (omega arith),
+    ) (follow-entered r s s′ path q same)
+
+-- a path in two parts: the second is followed from the value found by the first
+follow-append : (r : Reading) (s : List ℕ) (p : Span) (path rest : List ℕ)
+    → follow r s p (path ++ rest) ≡ then (follow r s p path) (λ q. follow r s q rest)
+unfolding follow
+follow-append r s p [] rest = refl
+follow-append r s p (t ∷ path) rest =
+    by-reply (seek r t (p .at) (part s p)) (λ q e. rw e (follow-append r s q path rest)) (λ k e. rw e)
+
+-- so at every level, in a record that is not shorter: nothing behind a value entered is seen by any path that goes on in it
+pub path-entered-behind-unseen : (r : Reading) (s s′ : List ℕ) → length s ≤ length s′ → (t : ℕ) (path rest : List ℕ) (q : Span)
+    → lookup r s (t ∷ path) ≡ is q → take (q .at + q .len) s′ ≡ take (q .at + q .len) s
+    → lookup r s′ ((t ∷ path) ++ rest) ≡ lookup r s ((t ∷ path) ++ rest)
+path-entered-behind-unseen r s s′ long t path rest q e same =
+    let front = front-less s s′ (q .at + q .len) same (q .at) (omega arith) in
+    follow-append r s′ (whole s′) (t ∷ path) rest
+    ∙ rw (lookup-front r s s′ long t path q e front) (follow-entered r s s′ rest q same)
+    ∙ sym (rw e at (follow-append r s (whole s) (t ∷ path) rest))

@@ -1,14 +1,15 @@
--- A lookup does not see the values that it passes over, and finds nothing in them: document 01, "BER records". Assumes nothing.
+-- A lookup does not see the values that it passes over, nor what lies behind the part that it enters last, and finds nothing there:
+-- document 01, "BER records". Assumes nothing.
 use Prim.Native.Nat.{ℕ, zero, suc, _+_, _≤_, _<_}
 use mathlib.Core.Path.{_≡_, refl, sym, ap, _∙_}
 use mathlib.Core.Bool.{true, false, cond}
-use mathlib.Core.List.{List, [], _∷_, _++_}
+use mathlib.Core.List.{List, [], _∷_, _++_, append-nil}
 use native.Mathlib.Nat.{zero-add, add-zero, suc-add, add-suc, add-assoc}
 use native.Mathlib.Omega.{arith}
 use lib.Dec.{eqb}
 use lib.ListN.{length, getD, take, drop, length-take, length-drop}
 use lib.Seq.{getD-take, getD-drop, ext-getD, length-take-le}
-use borrow.Author.Tests.{lt-ltb, le-ltb, le-leb, lt-leb, ne-eqb}
+use borrow.Author.Tests.{ltb-true, lt-ltb, le-ltb, le-leb, lt-leb, ne-eqb}
 use Rattle.basis.specs.Reply.{is, no as refused}
 use Rattle.basis.proofs.Reply.{All, all-is, all-weaken, then-same}
 use Rattle.tlv.specs.Tag.{tagOf}
@@ -18,8 +19,8 @@ use Rattle.tlv.specs.declared.Reading.{Reading}
 use Rattle.tlv.proofs.Within.{Ends, Lies, object-within, seek-within, lookup-within}
 use Rattle.tlv.proofs.Walk.{seek-next}
 use Rattle.tlv_laws.specs.Value.{ofValue}
-use Rattle.tlv_laws.specs.Skipped.{valueAt, passedIn, passedAt, passedFrom, passed, Every}
-use Rattle.tlv_laws.specs.Skipped.{covers, within, fillIn, refill, seen}
+use Rattle.tlv_laws.specs.Skipped.{valueAt, passedIn, passedAt, passedFrom, passed, lastFrom, lastEntered, past, Every}
+use Rattle.tlv_laws.specs.Skipped.{covers, within, fillIn, behind, aside, refill, seen}
 use Rattle.tlv_laws.proofs.Choice.{by-test, by-reply, on-cond, same-cond, neither, second, all-self, all-both}
 use Rattle.tlv_laws.proofs.Front.{object-front}
 use Rattle.tlv_laws.proofs.Behind.{follow-inside}
@@ -227,15 +228,49 @@ pub found-outside : (r : Reading) (s path : List ℕ) (p : Span) → lookup r s 
 found-outside r s path p e =
     all-is (λ p. Every (Before p) (passed r s path)) (lookup r s path) p (follow-outside r s (whole s) path) e
 
+-- the part entered last: the value found, and for a refusal the part in which a tag of the path was refused
+last-append : (r : Reading) (s : List ℕ) (p : Span) (path rest : List ℕ)
+    → All (λ q. lastFrom r s p (path ++ rest) ≡ lastFrom r s q rest) (follow r s p path)
+unfolding lastFrom follow
+last-append r s p [] rest = refl
+last-append r s p (t ∷ path) rest =
+    by-reply (seek r t (p .at) (part s p)) (λ m e. rw e (last-append r s m path rest)) (λ k e. rw e tt)
+
+module _ (r : Reading) (s path : List ℕ) (p : Span) (e : lookup r s path ≡ is p) where
+  last-rest : (rest : List ℕ) → lastEntered r s (path ++ rest) ≡ lastFrom r s p rest
+  last-rest rest =
+      all-is (λ q. lastEntered r s (path ++ rest) ≡ lastFrom r s q rest) (lookup r s path) p (last-append r s (whole s) path rest) e
+
+  pub last-found : lastEntered r s path ≡ p
+  unfolding lastFrom
+  last-found = rw append-nil at (last-rest [])
+
+  pub last-refused : (t k : ℕ) (rest : List ℕ) → seek r t (p .at) (part s p) ≡ refused k → lastEntered r s (path ++ (t ∷ rest)) ≡ p
+  unfolding lastFrom
+  last-refused t k rest h = last-rest (t ∷ rest) ∙ rw h
+
+-- it starts in the part that the path starts from
+last-from : (r : Reading) (s : List ℕ) (p : Span) (path : List ℕ) → p .at ≤ lastFrom r s p path .at
+unfolding lastFrom
+last-from r s p [] = omega arith
+last-from r s p (t ∷ path) =
+    let b = part s p in
+    let x = seek r t (p .at) b in
+    by-reply x (λ m e.
+    let l = all-is (Lies (p .at) (p .at + length b)) x m (seek-within r t (p .at) b) e in
+    rw e (omega (arith, last-from r s m path)))
+    (λ k e. rw e (omega arith))
+
 module _ (r : Reading) (s : List ℕ) where
   -- a place that the path from p on looks at: one that its first level looks at, or a deeper one
   abbrev LookedFrom : Span → List ℕ → ℕ → Type 0
-  LookedFrom p path i = (within (passedFrom r s p path) i ≡ false) × All (λ q. i < q .at) (follow r s p path)
+  LookedFrom p path i =
+      (within (passedFrom r s p path) i ≡ false) × (i < past (lastFrom r s p path)) × All (λ q. i < q .at) (follow r s p path)
 
   module _ (p : Span) (t : ℕ) (path : List ℕ) (i : ℕ) where
-    looked-level : Looked r t (length (part s p)) (p .at) (part s p) i → LookedFrom p (t ∷ path) i
-    unfolding follow passedFrom passedAt seek within
-    looked-level l =
+    looked-level : i < past p → Looked r t (length (part s p)) (p .at) (part s p) i → LookedFrom p (t ∷ path) i
+    unfolding follow passedFrom passedAt seek within lastFrom
+    looked-level h l =
         let x = seek r t (p .at) (part s p) in
         let here = passedAt r t (p .at) (part s p) in
         by-reply x (λ m e.
@@ -245,19 +280,21 @@ module _ (r : Reading) (s : List ℕ) where
           within-append here deeper i (l .0) (within-none deeper i
               (every-weaken (λ q. covers q i ≡ false) (λ q. m .at ≤ q .at) deeper
               (λ q g. covers-ahead q i (omega arith)) (passed-from r s m path))),
+          omega (arith, last-from r s m path),
           all-weaken (λ q. i < q .at) (Lies (m .at) (m .at + m .len)) (follow r s m path) (λ q g. omega arith)
               (follow-inside r s m path),
         ))
-        (λ k e. rw e (within-append here [] i (l .0) refl, tt))
+        (λ k e. rw e (within-append here [] i (l .0) refl, h, tt))
 
     looked-deeper : (m : Span) → seek r t (p .at) (part s p) ≡ is m → m .at ≤ i → LookedFrom m path i → LookedFrom p (t ∷ path) i
-    unfolding follow passedFrom
+    unfolding follow passedFrom lastFrom
     looked-deeper m e h l =
         let here = passedAt r t (p .at) (part s p) in
         rw e (
           within-append here (passedFrom r s m path) i (within-none here i (every-weaken (λ q. covers q i ≡ false) (Before m) here
               (λ q g. covers-behind q i (omega arith)) (level-before r t (p .at) (part s p) m e))) (l .0),
           l .1,
+          l .2,
         )
 
   -- a record of that length that agrees wherever the path looks
@@ -276,20 +313,21 @@ module _ (r : Reading) (s : List ℕ) where
         let byte : (l : List ℕ) (i : ℕ) → i < p .len → getD (part l p) i 0 ≡ getD l (p .at + i) 0 = λ l i g.
         getD-take (p .len) (drop (p .at) l) i 0 g ∙ getD-drop (p .at) l i 0 in
         let level : seek r t (p .at) b′ ≡ x = seek-unseen r t (p .at) b b′ size′ (λ i g l.
-        byte s′ i (omega arith) ∙ same (p .at + i) (omega arith) (omega arith) (looked-level p t path (p .at + i) l)
+        byte s′ i (omega arith) ∙ same (p .at + i) (omega arith) (omega arith) (looked-level p t path (p .at + i) (omega arith) l)
         ∙ sym (byte s i (omega arith))) in
         rw level (then-same (λ m. x ≡ is m) x _ _ (all-self x) (λ m e.
         let w = all-is (Lies (p .at) (p .at + length b)) x m (seek-within r t (p .at) b) e in
         follow-unseen path m (omega arith) (λ i g f l. same i (omega arith) (omega arith) (looked-deeper p t path i m e g l))))
 
--- a lookup depends only on the bytes that it looks at: those outside of the values passed over and before the value found
+-- a lookup depends only on the bytes that it looks at: those outside of the values passed over and before the value found; where it
+-- is refused, before the end of the part entered last
 pub unseen : (r : Reading) (s s′ path : List ℕ) → length s′ ≡ length s
     → ((i : ℕ) → i < length s → seen r s path i ≡ true → getD s′ i 0 ≡ getD s i 0) → lookup r s′ path ≡ lookup r s path
 unseen r s s′ path long same =
     rw long (follow-unseen r s s′ long path (whole s) (omega arith) (λ i _ h l.
     same i (omega arith) (rw (l .0) (by-reply (lookup r s path)
-    (λ p e. rw e (lt-ltb i (p .at) (all-is (λ q. i < q .at) (lookup r s path) p (l .1) e)))
-    (λ k e. rw e)))))
+    (λ p e. rw e (lt-ltb i (p .at) (all-is (λ q. i < q .at) (lookup r s path) p (l .2) e)))
+    (λ k e. rw e (lt-ltb i (past (lastEntered r s path)) (l .1)))))))
 
 -- other bytes in some parts: the length, and each byte
 pub length-fill : (f : ℕ → ℕ) (qs : List Span) (a : ℕ) (s : List ℕ) → length (fillIn f qs a s) ≡ length s
@@ -304,20 +342,37 @@ byte-fill f qs a [] i h = absurd (omega arith)
 byte-fill f qs a (b ∷ s) zero h = rw add-zero
 byte-fill f qs a (b ∷ s) (suc i) h = rw (byte-fill f qs (suc a) s i (omega arith), suc-add, add-suc)
 
+-- a place that a lookup looks at is not left aside, and neither is a place of the value found
+module _ (r : Reading) (s path : List ℕ) where
+  seen-stays : (i : ℕ) → seen r s path i ≡ true → within (aside r s path) i ≡ false
+  unfolding within
+  seen-stays i h =
+      let g = second (within (passed r s path) i) _ h in
+      let ahead : i < past (lastEntered r s path) = by-reply (lookup r s path)
+      (λ p e. rw (last-found r s path p e) (omega (arith, ltb-true i (p .at) (rw e at (g .1)))))
+      (λ k e. ltb-true i (past (lastEntered r s path)) (rw e at (g .1))) in
+      rw (covers-ahead (behind r s path) i ahead) (g .0)
+
+  found-stays : (p : Span) → lookup r s path ≡ is p → (i : ℕ) → p .at ≤ i → i < past p → within (aside r s path) i ≡ false
+  unfolding within
+  found-stays p e i h g =
+      rw (covers-ahead (behind r s path) i (rw (last-found r s path p e) g))
+      (within-none (passed r s path) i (every-weaken (λ q. covers q i ≡ false) (Before p) (passed r s path)
+      (λ q g. covers-behind q i (omega arith)) (found-outside r s path p e)))
+
 module _ (f : ℕ → ℕ) (r : Reading) (s path : List ℕ) where
   -- the record keeps its length
   pub refilled-length : length (refill f r s path) ≡ length s
-  refilled-length = length-fill f (passed r s path) 0 s
+  refilled-length = length-fill f (aside r s path) 0 s
 
-  -- the bytes of the values passed over are those of f, all others stay
-  pub refilled-byte : (i : ℕ) → i < length s → getD (refill f r s path) i 0 ≡ cond (within (passed r s path) i) (f i) (getD s i 0)
-  refilled-byte i h = rw zero-add at (byte-fill f (passed r s path) 0 s i h)
+  -- the bytes of all that is left aside are those of f, all others stay
+  pub refilled-byte : (i : ℕ) → i < length s → getD (refill f r s path) i 0 ≡ cond (within (aside r s path) i) (f i) (getD s i 0)
+  refilled-byte i h = rw zero-add at (byte-fill f (aside r s path) 0 s i h)
 
-  -- whatever bytes stand in the values passed over, the lookup is the same
+  -- whatever bytes stand in the values passed over and behind the part entered last, the lookup is the same
   pub refilled : lookup r (refill f r s path) path ≡ lookup r s path
   refilled =
-      unseen r s (refill f r s path) path refilled-length (λ i h g.
-      refilled-byte i h ∙ rw (second (within (passed r s path) i) _ g .0))
+      unseen r s (refill f r s path) path refilled-length (λ i h g. refilled-byte i h ∙ rw (seen-stays r s path i g))
 
   -- and shows the same value
   pub refilled-value : valueIn (refill f r s path) (lookup r (refill f r s path) path) ≡ valueIn s (lookup r s path)
@@ -325,15 +380,16 @@ module _ (f : ℕ → ℕ) (r : Reading) (s path : List ℕ) where
       let s′ = refill f r s path in
       rw refilled (by-reply (lookup r s path) (λ p e.
       let l = all-is (Lies 0 (length s)) (lookup r s path) p (lookup-within r s path) e in
-      let out : (i : ℕ) → p .at ≤ i → within (passed r s path) i ≡ false = λ i h.
-      within-none (passed r s path) i (every-weaken (λ q. covers q i ≡ false) (Before p) (passed r s path)
-      (λ q g. covers-behind q i (omega arith)) (found-outside r s path p e)) in
       rw e (take-same (p .len) (drop (p .at) s′) (drop (p .at) s)
       (simp (length-drop, refilled-length) (omega arith)) (simp length-drop (omega arith)) (λ i h.
-      getD-drop (p .at) s′ i 0 ∙ refilled-byte (p .at + i) (omega arith) ∙ rw (out (p .at + i) (omega arith))
-      (sym (getD-drop (p .at) s i 0)))))
+      getD-drop (p .at) s′ i 0 ∙ refilled-byte (p .at + i) (omega arith)
+      ∙ rw (found-stays r s path p e (p .at + i) (omega arith) (omega arith)) (sym (getD-drop (p .at) s i 0)))))
       (λ k e. rw e))
 
   -- and no bytes placed in a value passed over are found
   pub none-placed : (p : Span) → lookup r (refill f r s path) path ≡ is p → Every (λ q. q .at + q .len ≤ p .at) (passed r s path)
   none-placed p e = found-outside r s path p (sym refilled ∙ e)
+
+  -- nor any placed behind the part entered last
+  pub none-behind : (p : Span) → lookup r (refill f r s path) path ≡ is p → p .at + p .len ≤ behind r s path .at
+  none-behind p e = rw (last-found r s path p (sym refilled ∙ e)) (omega arith)

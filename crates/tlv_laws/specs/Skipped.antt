@@ -1,12 +1,13 @@
--- The values that a lookup passes over, and a record with other bytes in them. Document 01, "BER records" (lookup of a path) and
--- "Mistakes a reader would make": a record is walked object by object, never searched for a tag's bytes.
+-- The values that a lookup passes over, what lies behind the part that it enters last, and a record with other bytes there.
+-- Document 01, "BER records" (lookup of a path) and "Mistakes a reader would make": a record is walked object by object, never
+-- searched for a tag's bytes.
 use Prim.Native.Nat.{ℕ, zero, suc, _+_}
 use mathlib.Core.Bool.{Bool, true, false, cond}
 use mathlib.Core.List.{List, [], _∷_, _++_}
 use lib.Dec.{ltb, leb, eqb}
 use lib.ListN.{length, drop}
 use Rattle.tlv.specs.Object.{Object, sizeOf, objectOf}
-use Rattle.tlv.specs.Lookup.{Span, part, whole, seek, lookup}
+use Rattle.tlv.specs.Lookup.{Span, part, between, whole, seek, lookup}
 use Rattle.tlv.specs.declared.Reading.{Reading}
 use Rattle.tlv_laws.specs.Value.{ofValue}
 
@@ -33,6 +34,19 @@ passedFrom r s p (t ∷ path) =
 abbrev pub passed : Reading → List ℕ → List ℕ → List Span
 passed r s path = passedFrom r s (whole s) path
 
+-- the part that a path enters last, from a part of the record on: the value found, or the part in which a tag is refused
+unfoldable pub lastFrom : Reading → List ℕ → Span → List ℕ → Span
+lastFrom r s p [] = p
+lastFrom r s p (t ∷ path) = ofValue (seek r t (p .at) (part s p)) p (λ q. lastFrom r s q path)
+
+-- the whole record, where no object was entered
+abbrev pub lastEntered : Reading → List ℕ → List ℕ → Span
+lastEntered r s path = lastFrom r s (whole s) path
+
+-- the place behind a part
+abbrev pub past : Span → ℕ
+past p = p .at + p .len
+
 -- what holds of every part of a list
 abbrev pub Every : (Span → Type 0) → List Span → Type 0
 Every P [] = Unit {0}
@@ -51,10 +65,19 @@ unfoldable pub fillIn : (ℕ → ℕ) → List Span → ℕ → List ℕ → Lis
 fillIn f qs a [] = []
 fillIn f qs a (b ∷ s) = cond (within qs a) (f a) b ∷ fillIn f qs (suc a) s
 
--- the record with other bytes in all the values that the lookup passes over
-abbrev pub refill : (ℕ → ℕ) → Reading → List ℕ → List ℕ → List ℕ
-refill f r s path = fillIn f (passed r s path) 0 s
+-- what lies behind the part entered last; all that the lookup leaves aside: that, and the values passed over
+abbrev pub behind : Reading → List ℕ → List ℕ → Span
+behind r s path = between (past (lastEntered r s path)) (length s)
 
--- whether a lookup looks at a place: outside of the values passed over, and before the value found
+abbrev pub aside : Reading → List ℕ → List ℕ → List Span
+aside r s path = behind r s path ∷ passed r s path
+
+-- the record with other bytes in all of that
+abbrev pub refill : (ℕ → ℕ) → Reading → List ℕ → List ℕ → List ℕ
+refill f r s path = fillIn f (aside r s path) 0 s
+
+-- whether a lookup looks at a place: outside of the values passed over, and before the value found; where it is refused, before the
+-- end of the part entered last
 abbrev pub seen : Reading → List ℕ → List ℕ → ℕ → Bool
-seen r s path i = cond (within (passed r s path) i) false (ofValue (lookup r s path) true (λ p. ltb i (p .at)))
+seen r s path i =
+    cond (within (passed r s path) i) false (ltb i (ofValue (lookup r s path) (past (lastEntered r s path)) (λ p. p .at)))

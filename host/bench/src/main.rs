@@ -4,8 +4,10 @@
 //!
 //! Neither side is inlined into the loop: a call is one call of the Rust's function, or one of what is exported. The sides
 //! alternate round by round, and the best round of each counts. It fails where ours takes more than its limit, a tenth longer
-//! for a command and half as long again for a lookup, unless it runs emulated. A line with the limit `inf` has none.
+//! for a command that is read or written and half as long again for a lookup, unless it runs emulated. A line with the limit
+//! `inf` has none.
 
+mod builder;
 mod command;
 mod lookup;
 
@@ -55,6 +57,7 @@ fn main() {
     );
     let mut lines = Lines::default();
     command::time(&mut lines);
+    builder::time(&mut lines);
     lookup::time(&mut lines);
     if emulated {
         println!("emulated: x86-64 code on another machine; the times say nothing, and the ratios little");

@@ -6,7 +6,8 @@ mod standard;
 
 use gorvisclen::{COMMAND_NUMBERS, CRATE_READING, OWNED_NUMBERS, STANDARD_READING};
 
-use self::operations::{by_rust, extended_past, Asked, Piece, Room, ROOMS, SHORT_ROOMS};
+pub use self::operations::by_rust;
+use self::operations::{extended_past, Asked, Piece, Room, ROOMS, SHORT_ROOMS};
 use self::standard::CASES;
 use crate::inputs::Inputs;
 use crate::tally::Tally;

@@ -3,6 +3,7 @@
 //!     compare [--seed N]
 
 mod aid;
+mod builder;
 mod class;
 mod command;
 mod inputs;
@@ -35,5 +36,6 @@ fn main() {
     aid::compare(&mut tally, &mut inputs);
     command::compare(&mut tally, &mut inputs);
     tlv::compare(&mut tally, &mut inputs);
+    builder::compare(&mut tally, &mut inputs);
     tally.finish();
 }

@@ -13,7 +13,9 @@
 //! | 6 to 10 | the AID is empty; over 16 bytes; truncated above its length; national under 5; international under 5 |
 //! | 11 | the end was reached at an object boundary: no byte is left where an object would start |
 //! | 12 | an object starts here but cannot be read; a length cannot be read |
-//! | 16 | what was lent for the answer is too short; an object to write does not fit from the named place |
+//! | 13 | the data of the command to build are above 65,535 bytes |
+//! | 15 | extended length is forced where it is unsupported |
+//! | 16 | what was lent for the answer is too short; an object or a command to write does not fit from the named place |
 //! | 18 | the held data and the new data exceed the room |
 //! | 19 | the value to write is above 65,535 bytes |
 //! | 21 | standard reading: the command has an extended Lc of zero and an Le |
@@ -34,6 +36,18 @@ pub const CRATE_READING: u8 = 0;
 
 /// The reading of them that the standard has; every other number but 0 names it too.
 pub const STANDARD_READING: u8 = 1;
+
+/// The mode of a command to build in which it is short only: extended length is unsupported.
+pub const SHORT_ONLY: u8 = 0;
+
+/// The mode in which extended length is supported, and used where it is needed.
+pub const EXTENDED_SUPPORTED: u8 = 1;
+
+/// The mode in which extended length is forced; every number above names it too.
+pub const EXTENDED_FORCED: u8 = 2;
+
+/// An expected length of a command to build, the most there can be: Max. Every number above is Max too.
+pub const EXPECTED_MAX: u32 = 65_536;
 
 /// How many numbers `class` and `class_as_chained` write.
 pub const CLASS_NUMBERS: usize = 11;
@@ -182,6 +196,59 @@ extern "C" {
         out: *mut u64,
         out_len: usize,
     ) -> u8;
+    fn gorvisclen_required_len(
+        class: u8,
+        instruction: u8,
+        p1: u8,
+        p2: u8,
+        le: u32,
+        mode: u8,
+        data: *const u8,
+        data_len: usize,
+        out: *mut u64,
+        out_len: usize,
+    ) -> u8;
+    fn gorvisclen_force_extended(
+        class: u8,
+        instruction: u8,
+        p1: u8,
+        p2: u8,
+        le: u32,
+        mode: u8,
+        data: *const u8,
+        data_len: usize,
+        out: *mut u64,
+        out_len: usize,
+    ) -> u8;
+    fn gorvisclen_builder_eq(
+        class: u8,
+        instruction: u8,
+        p1: u8,
+        p2: u8,
+        le: u32,
+        mode: u8,
+        data: *const u8,
+        data_len: usize,
+        apdu: *const u8,
+        apdu_len: usize,
+        out: *mut u64,
+        out_len: usize,
+    ) -> u8;
+    fn gorvisclen_serialize_into(
+        class: u8,
+        instruction: u8,
+        p1: u8,
+        p2: u8,
+        le: u32,
+        mode: u8,
+        data: *const u8,
+        data_len: usize,
+        buffer: *mut u8,
+        buffer_len: usize,
+        at: usize,
+        out: *mut u64,
+        out_len: usize,
+    ) -> u8;
 }
 
 // In each function below: the pointers and lengths are those of slices that are borrowed for the call, which keeps none of them.
@@ -290,8 +357,7 @@ pub fn command(reading: u8, apdu: &[u8], out: &mut [u64]) -> Reply {
     })
 }
 
-/// Copies the data of a command to the front of `to`; a command that is refused has none. Writes one number: their length.
-/// Refusal: 16.
+/// Copies the data of a command to the front of `to`. Writes one number: their length. Refusals: those of the command, 16.
 pub fn command_data(reading: u8, apdu: &[u8], to: &mut [u8], out: &mut [u64]) -> Reply {
     reply(unsafe {
         gorvisclen_command_data(
@@ -405,8 +471,8 @@ pub fn get_data_object(reading: u8, record: &[u8], path: &[u32], out: &mut [u64]
     })
 }
 
-/// Copies the value that a path of tags leads to to the front of `to`; a lookup that is refused has none. Writes one number:
-/// the value's length. Refusal: 16.
+/// Copies the value that a path of tags leads to to the front of `to`. Writes one number: the value's length. Refusals: 11, 12
+/// (as the lookup), 16.
 pub fn value(reading: u8, record: &[u8], path: &[u32], to: &mut [u8], out: &mut [u64]) -> Reply {
     reply(unsafe {
         gorvisclen_value(
@@ -441,6 +507,107 @@ pub fn put_data_object(
             b3,
             value.as_ptr(),
             value.len(),
+            buffer.as_mut_ptr(),
+            buffer.len(),
+            at,
+            out.as_mut_ptr(),
+            out.len(),
+        )
+    })
+}
+
+/// The length of the command that is built of a header (class byte, instruction byte, P1, P2), an expected length, a mode and
+/// data, as one number. Refusals: 3, 13, 16.
+pub fn required_len(header: [u8; 4], le: u32, mode: u8, data: &[u8], out: &mut [u64]) -> Reply {
+    let [class, instruction, p1, p2] = header;
+    reply(unsafe {
+        gorvisclen_required_len(
+            class,
+            instruction,
+            p1,
+            p2,
+            le,
+            mode,
+            data.as_ptr(),
+            data.len(),
+            out.as_mut_ptr(),
+            out.len(),
+        )
+    })
+}
+
+/// The same number once extended length is forced on the command. Refusals: 3, 13, 15 in the mode `SHORT_ONLY`, 16.
+pub fn force_extended(header: [u8; 4], le: u32, mode: u8, data: &[u8], out: &mut [u64]) -> Reply {
+    let [class, instruction, p1, p2] = header;
+    reply(unsafe {
+        gorvisclen_force_extended(
+            class,
+            instruction,
+            p1,
+            p2,
+            le,
+            mode,
+            data.as_ptr(),
+            data.len(),
+            out.as_mut_ptr(),
+            out.len(),
+        )
+    })
+}
+
+/// Whether a command to build equals the command `apdu`, which is parsed in the crate's reading, as one number, 0 or 1: header,
+/// data and expected length agree. That to build is not lowered by its mode, and Max counts as 65,535 here.
+/// Refusals: 3 and 13 of the command to build; 1, 3, 4, 5 of `apdu`; 16.
+pub fn builder_eq(
+    header: [u8; 4],
+    le: u32,
+    mode: u8,
+    data: &[u8],
+    apdu: &[u8],
+    out: &mut [u64],
+) -> Reply {
+    let [class, instruction, p1, p2] = header;
+    reply(unsafe {
+        gorvisclen_builder_eq(
+            class,
+            instruction,
+            p1,
+            p2,
+            le,
+            mode,
+            data.as_ptr(),
+            data.len(),
+            apdu.as_ptr(),
+            apdu.len(),
+            out.as_mut_ptr(),
+            out.len(),
+        )
+    })
+}
+
+/// Writes the command into `buffer` from the place `at`. Writes one number: how many bytes it takes, those of `required_len`.
+/// Refusals: 3; 13; 16 where they do not fit, for every `at`.
+#[inline]
+pub fn serialize_into(
+    header: [u8; 4],
+    le: u32,
+    mode: u8,
+    data: &[u8],
+    buffer: &mut [u8],
+    at: usize,
+    out: &mut [u64],
+) -> Reply {
+    let [class, instruction, p1, p2] = header;
+    reply(unsafe {
+        gorvisclen_serialize_into(
+            class,
+            instruction,
+            p1,
+            p2,
+            le,
+            mode,
+            data.as_ptr(),
+            data.len(),
             buffer.as_mut_ptr(),
             buffer.len(),
             at,

@@ -1,12 +1,23 @@
 use borrow.Author.Needs.{needs}
+use mathlib.Core.Path.{_≡_, refl, sym, ap, _∙_}
+use Rattle.command.specs.Command.{dataIn, said}
 use Rattle.exports_owned.proofs.gorvisclen_command_data.Statement.{statement}
 use Rattle.exports_owned.proofs.gorvisclen_command_data.Tie as tie
 
 returns : tie.Need-returns
 returns c =
+    let k = c .before .before in
+    let t = k .before .before in
+    rw (← t .before .reading-numbered .ensures, sym (t .try-from .ensures) ∙ ap said (k .k .given .1)) (c .refuse .ensures, refl, refl)
+
+returns-2 : tie.Need-returns-2
+returns-2 c =
     let y = c .before .before .before .before in
     let d = y .before .before .before in
-    rw (← d .before .reading-numbered .ensures, ← d .«data» .ensures) (y .copy .ensures)
+    let t = d .before .before .before in
+    let a = t .before .before .before .before .before .args in
+    let e = sym (t .try-from .ensures) ∙ ap said (d .before .enum-told .given .1) in
+    rw (← t .before .reading-numbered .ensures, e, ← d .«data» .ensures ∙ ap (dataIn (a .apdu .now)) e) (y .copy .ensures)
 
 pub gorvisclen-command-data-spec : {M : Type 1} → statement M
 gorvisclen-command-data-spec =
@@ -14,7 +25,12 @@ gorvisclen-command-data-spec =
     (tie.spec
     (λ c κs. search needs)
     (λ c κs. search needs)
+    (λ c. search needs)
     (λ c κs. search needs)
     (λ c. search needs)
+    (λ c κs. search needs)
+    (λ c κs. search needs)
+    returns
     (λ c. search needs)
-    returns)
+    (λ c. search needs)
+    returns-2)

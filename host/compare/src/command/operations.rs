@@ -255,12 +255,12 @@ impl Asked<'_> {
 
     pub fn data(&self, tally: &mut Tally, to_len: usize, len: usize) {
         let (mut to, mut out) = (bytes(to_len), numbers(len));
-        let data = self.parsed().map_or(&[][..], |parsed| parsed.data);
-        let reply = or_short(Ok(()), to_len >= data.len() && len >= 1);
-        if reply.is_ok() {
+        let data = self.parsed().map(|parsed| parsed.data);
+        let room = data.as_ref().map_or(true, |data| to_len >= data.len());
+        let reply = or_short(data, room && len >= 1).map(|data| {
             to.part()[..data.len()].copy_from_slice(data);
             out.part()[0] = data.len() as u64;
-        }
+        });
         let theirs = Outcome::new(reply, out, to).reading(&[self.apdu]);
 
         let (mut to, mut out) = (bytes(to_len), numbers(len));

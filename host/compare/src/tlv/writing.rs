@@ -188,6 +188,29 @@ fn every_boundary(tally: &mut Tally, inputs: &mut Inputs) {
     }
 }
 
+/// The boundaries with every place from the beginning to past the end; of the longest, the places at both ends and every 251st
+/// between them.
+fn every_place_at_a_boundary(tally: &mut Tally, inputs: &mut Inputs) {
+    let row = &inputs.bytes(65_536);
+    for n in [0, 127, 128, 255, 256, 65_535, 65_536] {
+        let value = &row[..n];
+        let object = Object {
+            tag: TAGS[5],
+            value,
+        };
+        let need = DataSource::len(&object.rust());
+        for buffer_len in [need - 1, need, need + 3] {
+            for at in 0..=buffer_len + 3 {
+                let inner = at > 16 && at + 16 < buffer_len;
+                if n > 256 && inner && at % 251 != 0 {
+                    continue;
+                }
+                object.write(tally, buffer_len, at, 1);
+            }
+        }
+    }
+}
+
 /// Every first and second byte of a tag.
 fn every_tag(tally: &mut Tally, inputs: &mut Inputs) {
     for front in 0..=u16::MAX {
@@ -250,6 +273,7 @@ fn read_back(tally: &mut Tally, inputs: &mut Inputs) {
 pub fn compare(tally: &mut Tally, inputs: &mut Inputs) {
     every_place(tally, inputs);
     every_boundary(tally, inputs);
+    every_place_at_a_boundary(tally, inputs);
     every_tag(tally, inputs);
     read_back(tally, inputs);
 }

@@ -1,0 +1,26 @@
+-- What the exported writer of commands leaves of the slices that a host lends. Document 01, "Building and cutting" and
+-- "Numbers of refusal" (3, 13, 16).
+use Prim.Native.Nat.{ℕ}
+use mathlib.Core.Path.{_≡_}
+use mathlib.Core.List.{List, [], _∷_}
+use lib.ListN.{length}
+use Rattle.basis.specs.Reply.{Reply, is, no, then, status}
+use Rattle.tell.specs.Answers.{fitting, written}
+use Rattle.builder.specs.Bytes.{bufferAfter, fitting as command}
+use Rattle.builder.specs.declared.CommandBuilder.{CommandBuilder}
+
+-- the command of a builder with the data d, written from a place of a buffer of m bytes, its length told in a slice of n
+abbrev pub writing : Reply CommandBuilder → List ℕ → ℕ → ℕ → ℕ → Reply ℕ
+writing x d at m n = fitting 1 n (then x (λ b. command b d m at))
+
+-- the buffer after it
+abbrev pub bufferBy : Reply CommandBuilder → Reply ℕ → List ℕ → List ℕ → ℕ → List ℕ
+bufferBy (is b) y d buffer at = bufferAfter y b d buffer at
+bufferBy (no k) y d buffer at = buffer
+
+-- the promise of `gorvisclen_serialize_into`, for the builder x
+pub record Serialized (x : Reply CommandBuilder) (d : List ℕ) (at : ℕ) (buffer out : List ℕ) (r : ℕ) (buffer′ out′ : List ℕ)
+    : Type 0 where
+  pub reply : r ≡ status (writing x d at (length buffer) (length out))
+  pub bytes : buffer′ ≡ bufferBy x (writing x d at (length buffer) (length out)) d buffer at
+  pub told : out′ ≡ written (then (writing x d at (length buffer) (length out)) (λ n. is (n ∷ []))) out

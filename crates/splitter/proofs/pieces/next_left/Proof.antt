@@ -1,0 +1,88 @@
+use borrow.Author.Needs.{needs}
+use native.Mathlib.Omega.{arith}
+use mathlib.Core.Path.{_≡_, refl, sym, ap, _∙_}
+use Prim.Native.Nat.{ℕ, min, _+_, _≤_, _<_}
+use mathlib.Core.List.{List}
+use mathlib.Core.Option.{none, some}
+use lib.ListN.{length, drop, length-drop}
+use Rattle.basis.specs.Reply.{is, no}
+use Rattle.basis.proofs.Reply.{all-is}
+use Rattle.basis.proofs.Part.{rest-is}
+use Rattle.splitter.specs.Step.{stepOf, said}
+use Rattle.splitter.specs.Pieces.{placeIn}
+use Rattle.splitter.specs.declared.step.Split.{Split}
+use Rattle.splitter.specs.declared.step.ShouldSplit.{ShouldSplit}
+use Rattle.splitter.proofs.Inside.{Fewer, step-fewer, left-by}
+use Rattle.splitter.proofs.pieces.next_left.Statement.{statement}
+use Rattle.splitter.proofs.pieces.next_left.Tie as tie
+
+-- the step of what is left, where it was asked
+abbrev Asked : Type 0
+Asked = tie.After-should-split
+
+stepped : (c : Asked) (x : ShouldSplit) → c .should-split .result ≡ x → let a = c .before .before .before .before .before .args in
+    stepOf (a .left .builder) (length (drop (placeIn (a .left) (a .«data» .now)) (a .«data» .now))) (a .left .available) ≡ said x
+stepped c x e =
+    let p = c .before .before .before in
+    let a = p .before .before .args in
+    rw (← p .place .ensures)
+    (ap (λ (s : List ℕ). stepOf (a .left .builder) (length s) (a .left .available)) (sym (rest-is (p .place .result) (a .«data» .now)))
+    ∙ sym (c .should-split .ensures) ∙ ap said e)
+
+-- the part that was split off is shorter than what is left
+shorter : (c : tie.After-split) → let a = c .before .before .before .before .before .before .before .args in
+    c .split .given .0 .0 .len < length (drop (placeIn (a .left) (a .«data» .now)) (a .«data» .now))
+shorter c =
+    let a = c .before .before .before .before .before .before .before .args in
+    let n = length (drop (placeIn (a .left) (a .«data» .now)) (a .«data» .now)) in
+    all-is (Fewer n) (stepOf (a .left .builder) n (a .left .available)) (some (c .split .given .0 .0))
+    (step-fewer (a .left .builder) n (a .left .available)) (stepped (c .before .before) _ (c .split .given .1))
+
+behind-requires : tie.Need-behind-requires
+behind-requires c κs =
+    let s = c .before .before in
+    let a = s .before .before .before .before .before .before .before .args in
+    let p = s .before .before .before .before .before in
+    omega (arith, shorter s, p .place .ensures, length-drop (placeIn (a .left) (a .«data» .now)) (a .«data» .now))
+
+returns : tie.Need-returns
+returns c =
+    let q = c .before .before .before in
+    let a = q .before .before .before .before .before in
+    rw (left-by (a .args .left) (a .args .«data» .now) (no _) (a .pre) (stepped q _ (c .before .k .given .1)))
+
+returns-2 : tie.Need-returns-2
+returns-2 c =
+    let q = c .before .before in
+    let p = q .before .before .before in
+    let a = q .before .before .before .before .before in
+    rw (left-by (a .args .left) (a .args .«data» .now) (is none) (a .pre) (stepped q _ (c .enum-told .given .1)), ← p .place .ensures, rest-is)
+
+returns-3 : tie.Need-returns-3
+returns-3 c =
+    let s = c .before .before .before in
+    let q = s .before .before in
+    let p = q .before .before .before in
+    let a = q .before .before .before .before .before in
+    rw (
+      left-by (a .args .left) (a .args .«data» .now) (is (some _)) (a .pre) (stepped q _ (s .split .given .1)),
+      ← p .place .ensures,
+      c .behind .ensures,
+    )
+
+pub next-left-spec : {M : Type 1} → statement M
+next-left-spec =
+    tie.close
+    (tie.spec
+    (λ c κs. search needs)
+    (λ c. search needs)
+    (λ c. search needs)
+    (λ c. search needs)
+    (λ c κs. search needs)
+    (λ c. search needs)
+    (λ c. search needs)
+    (λ c. search needs)
+    behind-requires
+    returns
+    returns-2
+    returns-3)

@@ -1,0 +1,69 @@
+use borrow.Author.Needs.{needs}
+use mathlib.Core.Path.{_≡_, refl, sym, ap, _∙_}
+use Prim.Native.Nat.{ℕ, _+_, _-_}
+use native.Mathlib.Nat.{add-sub-cancel-left}
+use mathlib.Core.List.{List}
+use lib.ListN.{length, take, drop}
+use Rattle.builder.specs.Bytes.{said, fitting, bufferAfter}
+use Rattle.builder.specs.declared.sizes.Length.{Length}
+use Rattle.splitter.proofs.pieces.write_piece.Statement.{statement}
+use Rattle.splitter.proofs.pieces.write_piece.Tie as tie
+
+-- where the piece was written: the piece, the data, the buffer and the place
+abbrev start : tie.After-serialize-into → tie.Start
+start c = c .before .before .before .before .before .before .before
+
+abbrev bytes : tie.After-serialize-into → List ℕ
+bytes c = take (start c .args .piece .len) (drop (start c .args .piece .at) (start c .args .«data» .now))
+
+-- the part of the data that was lent is the piece's
+lent : (c : tie.After-serialize-into) → let a = start c .args in
+    take (a .piece .at + a .piece .len - a .piece .at) (drop (a .piece .at) (a .«data» .now)) ≡ bytes c
+lent c =
+    let a = start c .args in
+    ap (λ (n : ℕ). take n (drop (a .piece .at) (a .«data» .now))) (add-sub-cancel-left (a .piece .at) (a .piece .len))
+
+-- what was replied and what the buffer holds, by the answer
+wrote : (c : tie.After-serialize-into) (x : Length) → c .serialize-into .result ≡ x
+    → fitting (start c .args .piece .builder) (bytes c) (length (start c .args .buffer .now)) (start c .args .at) ≡ said x
+wrote c x e =
+    let a = start c .args in
+    ap (λ (s : List ℕ). fitting (a .piece .builder) s (length (a .buffer .now)) (a .at)) (sym (lent c))
+    ∙ sym (c .serialize-into .ensures .reply) ∙ ap said e
+
+left : (c : tie.After-serialize-into) → let a = start c .args in
+    c .serialize-into .last .1 .1 .0
+    ≡ bufferAfter (fitting (a .piece .builder) (bytes c) (length (a .buffer .now)) (a .at)) (a .piece .builder) (bytes c) (a .buffer .now) (a .at)
+left c =
+    let a = start c .args in
+    c .serialize-into .ensures .buffer
+    ∙ ap (λ (s : List ℕ). bufferAfter (fitting (a .piece .builder) s (length (a .buffer .now)) (a .at)) (a .piece .builder) s (a .buffer .now) (a .at))
+    (lent c)
+
+returns : tie.Need-returns
+returns c =
+    let w = c .before .before .before .before .before in
+    let e = wrote w _ (c .before .k .given .1) in
+    record { reply = rw e; buffer = rw e (rw e at (left w)) }
+
+returns-2 : tie.Need-returns-2
+returns-2 c =
+    let w = c .before .before .before .before .before in
+    let e = wrote w _ (c .before .len .given .1) in
+    record { reply = rw e; buffer = rw e (rw e at (left w)) }
+
+pub write-piece-spec : {M : Type 1} → statement M
+write-piece-spec =
+    tie.close
+    (tie.spec
+    (λ c. search needs)
+    (λ c. search needs)
+    (λ c. search needs)
+    (λ c. search needs)
+    (λ c κs. search needs)
+    (λ c. search needs)
+    (λ c. search needs)
+    (λ c. search needs)
+    returns
+    (λ c. search needs)
+    returns-2)

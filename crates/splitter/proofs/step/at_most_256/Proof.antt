@@ -1,0 +1,20 @@
+use borrow.Author.Needs.{needs}
+use borrow.Author.Tests.{le-leb, lt-leb}
+use Rattle.splitter.proofs.step.at_most_256.Statement.{statement}
+use Rattle.splitter.proofs.step.at_most_256.Tie as tie
+
+returns : tie.Need-returns
+returns c = rw (c .before .before .le .given .1, le-leb _ _ (c .if1 .taken))
+
+returns-2 : tie.Need-returns-2
+returns-2 c = rw (c .before .before .le .given .1, lt-leb _ _ (c .if1 .left))
+
+pub at-most-256-spec : {M : Type 1} → statement M
+at-most-256-spec =
+    tie.close
+    (tie.spec
+    (λ c. search needs)
+    returns
+    (λ c. search needs)
+    returns-2
+    (λ c. search needs))

@@ -1,0 +1,157 @@
+-- A chain that was made, asked again and again with the data that it was made for, gives the pieces of its command, and then none.
+-- Assumes nothing.
+use Prim.Native.Nat.{ℕ, zero, suc, _+_, _-_, _≤_, _<_}
+use mathlib.Core.Path.{_≡_, refl, ap, _∙_}
+use mathlib.Core.List.{List, [], _∷_, map}
+use mathlib.Core.Option.{Option, none, some}
+use native.Mathlib.Nat.{min-eq-left}
+use native.Mathlib.Omega.{arith}
+use borrow.Author.Tests.{lt-ltb, le-ltb, ltb-false}
+use lib.Dec.{ltb}
+use lib.ListN.{length, take, drop, replicate, length-drop, length-map}
+use lib.Seq.{take-length, drop-drop}
+use Rattle.basis.specs.Reply.{Reply, is, no as refused}
+use Rattle.basis.proofs.Reply.{All, all-is, all-cond, all-then}
+use Rattle.builder.specs.Builder.{newOf}
+use Rattle.builder.specs.declared.CommandBuilder.{CommandBuilder}
+use Rattle.builder.specs.declared.ExpectedLen.the-variants.{Ne}
+use Rattle.builder.specs.declared.ExtendedLen.the-variants.{Unsupported}
+use Rattle.builder_laws.proofs.Made.{new-made}
+use Rattle.splitter.specs.Step.{roomOf, firstOf, laterOf}
+use Rattle.splitter.specs.Pieces.{Part, parts, pieceOf, piecesOf, chainOf, leftOf, nextOf, bytesOf}
+use Rattle.splitter.specs.declared.pieces.Piece.{Piece}
+use Rattle.splitter.specs.declared.pieces.Pieces.{Pieces}
+use Rattle.splitter.specs.declared.pieces.Pieces.the-variants as pieces
+use Rattle.splitter_laws.specs.Chain.{shortOf, startOf, ChainMade, answers, oneByOne, given, collected}
+use Rattle.splitter_laws.proofs.Builder.{new-ff, new-long, new-is}
+use Rattle.splitter_laws.proofs.Cut.{step-whole, step-split, cut}
+
+-- When a chain is made, and what is refused: 3, 13, and 14 for a buffer under ten.
+module _ (c i p q n e m : ℕ) where
+  pub chain-ff : c ≡ 0xFF → chainOf c i p q n e m ≡ refused 3
+  unfolding chainOf
+  chain-ff k = rw (new-ff c i p q n (Ne e) Unsupported k)
+
+  module _ (k : c ≡ 0xFF → ⊥) where
+    pub chain-long : 65535 < n → chainOf c i p q n e m ≡ refused 13
+    unfolding chainOf
+    chain-long h = rw (new-long c i p q n (Ne e) Unsupported k h)
+
+    module _ (few : n ≤ 65535) where
+      pub chain-buffer : m < 10 → chainOf c i p q n e m ≡ refused 14
+      unfolding chainOf
+      chain-buffer h = rw (new-is c i p q n (Ne e) Unsupported k few, lt-ltb m 10 h)
+
+      pub chain-is : 10 ≤ m → chainOf c i p q n e m ≡ is (startOf c i p q e m)
+      unfolding chainOf
+      chain-is h = rw (new-is c i p q n (Ne e) Unsupported k few, le-ltb m 10 h)
+
+-- a reply gives what it gives
+all-self : {A : Type 0} (x : Reply A) → All (λ a. x ≡ is a) x
+all-self (is a) = refl
+all-self (refused k) = tt
+
+module _ (c i p q n e m : ℕ) where
+  all-made : All (ChainMade c i p q n e m) (chainOf c i p q n e m)
+  unfolding chainOf
+  all-made =
+      let new = newOf c i p q n (Ne e) Unsupported in
+      all-then (ChainMade c i p q n e m) (λ b. new ≡ is b) new _ (all-self new) (λ b h.
+      let made = new-made c i p q n (Ne e) Unsupported b h in
+      all-cond (ChainMade c i p q n e m) (ltb m 10) _ _ (λ _. tt) (λ g. record {
+        class = λ z. made .class (ap (λ (x : CommandBuilder). x .class .cla) (made .fields) ∙ z);
+        few = made .few;
+        ten = ltb-false m 10 g;
+        start = ap (λ (x : CommandBuilder). pieces.Left (record { builder = x; at = 0; available = m })) (made .fields);
+      }))
+
+  pub chain-made : (chain : Pieces) → chainOf c i p q n e m ≡ is chain → ChainMade c i p q n e m chain
+  chain-made chain h = all-is (ChainMade c i p q n e m) (chainOf c i p q n e m) chain all-made h
+
+-- nothing left stays so
+none-left : (j : ℕ) (d : List ℕ) → answers j pieces.Done d ≡ replicate j (is none)
+unfolding answers
+none-left zero d = refl
+none-left (suc j) d = ap (λ (l : List (Reply (Option (List ℕ)))). is none ∷ l) (none-left j d)
+
+abbrev leftAt : CommandBuilder → ℕ → ℕ → Pieces
+leftAt b at m = pieces.Left (record { builder = b; at = at; available = m })
+
+-- a question, where the data left fit and where they are split
+module _ (d : List ℕ) (m : ℕ) (few : length d ≤ 65535) (ten : 10 ≤ m) (b : CommandBuilder) (at : ℕ) (inside : at ≤ length d)
+  where
+    ask-whole : length (drop at d) ≤ roomOf b (length (drop at d)) m
+        → nextOf (leftAt b at m) d ≡ is (some (record { builder = b; at = at; len = length (drop at d); rest = pieces.Done }))
+    unfolding leftOf
+    ask-whole h =
+        let n = length (drop at d) in
+        rw (le-ltb 65535 (length d) few, min-eq-left inside, step-whole b n m (omega (arith, length-drop at d)) (omega arith) h)
+
+    ask-split : (r : ℕ) → r ≡ roomOf b (length (drop at d)) m → 1 ≤ r → r < length (drop at d)
+        → nextOf (leftAt b at m) d
+        ≡ is (some (record { builder = firstOf b; at = at; len = r; rest = leftAt (laterOf b) (at + r) m }))
+    unfolding leftOf
+    ask-split r e g h =
+        let n = length (drop at d) in
+        rw (
+          le-ltb 65535 (length d) few,
+          min-eq-left inside,
+          step-split b n m (omega (arith, length-drop at d)) (omega arith) (omega arith) (omega arith),
+          e,
+        )
+
+-- a question and those behind it
+answer-is : (k l : ℕ) → k ≡ suc l → (c : Pieces) (d : List ℕ) (p : Piece) → nextOf c d ≡ is (some p)
+    → answers k c d ≡ is (some (bytesOf p d)) ∷ answers l (p .rest) d
+unfolding answers
+answer-is k l e c d p h = rw (e, h)
+
+-- asked as often as there are parts, and j times more
+abbrev Asked : List ℕ → ℕ → CommandBuilder → List ℕ → List Part → Type 0
+Asked d m b rest ps =
+    (at : ℕ) → at ≤ length d → rest ≡ drop at d → (k j : ℕ) → k ≡ length ps + j
+    → answers k (leftAt b at m) d ≡ oneByOne (map pieceOf ps) j
+
+module _ (d : List ℕ) (m : ℕ) (few : length d ≤ 65535) (ten : 10 ≤ m) (b : CommandBuilder) (rest : List ℕ) where
+  asked-whole : length rest ≤ roomOf b (length rest) m → Asked d m b rest (record { builder = b; «data» = rest } ∷ [])
+  asked-whole h at inside q k j e =
+      answer-is k j (omega arith) (leftAt b at m) d _ (ask-whole d m few ten b at inside (rw q at h))
+      ∙ rw (q, take-length (drop at d), none-left j d)
+
+  asked-split : (r : ℕ) (ps : List Part) → r ≡ roomOf b (length rest) m → 1 ≤ r → r < length rest
+      → Asked d m (laterOf b) (drop r rest) ps → Asked d m b rest (record { builder = firstOf b; «data» = take r rest } ∷ ps)
+  asked-split r ps e g h f at inside q k j s =
+      let left = rw q at h in
+      let behind : drop r rest ≡ drop (at + r) d = rw q (drop-drop r at d) in
+      let next = ask-split d m few ten b at inside r (rw q at e) g left in
+      answer-is k (length ps + j) (omega arith) (leftAt b at m) d _ next
+      ∙ rw (q, f (at + r) (omega (arith, length-drop at d)) behind (length ps + j) j refl)
+
+-- what is collected of such answers
+given-all : (ps : List (List ℕ)) (j : ℕ) → given (oneByOne ps j) ≡ ps
+given-all [] zero = refl
+given-all [] (suc j) = refl
+given-all (p ∷ ps) j = ap (λ (l : List (List ℕ)). p ∷ l) (given-all ps j)
+
+-- The answers of a chain that was made for these data: the pieces of its command, one by one, and then none, however often it is
+-- asked. So no step is refused.
+module _ (c i p q e m : ℕ) (d : List ℕ) (chain : Pieces) (made : chainOf c i p q (length d) e m ≡ is chain) where
+  asked : (k j : ℕ) → k ≡ length (piecesOf (shortOf c i p q e) d m) + j
+      → answers k chain d ≡ oneByOne (piecesOf (shortOf c i p q e) d m) j
+  asked k j h =
+      let start = chain-made c i p q (length d) e m chain made in
+      let b = shortOf c i p q e in
+      let number : k ≡ length (parts b d m) + j = omega (arith, length-map (parts b d m) pieceOf) in
+      rw (start .start)
+      (cut m (start .ten) (Asked d m) (asked-whole d m (start .few) (start .ten)) (asked-split d m (start .few) (start .ten))
+      b d (start .few) 0 (omega arith) refl k j number)
+
+  pub chain-answers : (j : ℕ) → answers (length (piecesOf (shortOf c i p q e) d m) + j) chain d
+      ≡ oneByOne (piecesOf (shortOf c i p q e) d m) j
+  chain-answers j = asked (length (piecesOf (shortOf c i p q e) d m) + j) j refl
+
+  pub chain-collected : (k : ℕ) → length (piecesOf (shortOf c i p q e) d m) ≤ k
+      → collected k chain d ≡ piecesOf (shortOf c i p q e) d m
+  chain-collected k h =
+      let ps = piecesOf (shortOf c i p q e) d m in
+      ap given (asked k (k - length ps) (omega arith)) ∙ given-all ps (k - length ps)

@@ -1,0 +1,7 @@
+pub mod Every
+pub mod Builder
+pub mod Cut
+pub mod Parts
+pub mod Number
+pub mod Chain
+pub mod Vectors

@@ -1,0 +1,6 @@
+pub mod Every
+pub mod Cut
+pub mod Parts
+pub mod Number
+pub mod Chain
+pub mod Vectors

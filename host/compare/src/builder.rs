@@ -1,0 +1,410 @@
+//! Commands built: every expected length, every length of the data to 65,540, every mode byte, and what else each test below says.
+//! They run beside the Rust. Short only with more than 255 bytes or with Max, it builds nothing for a caller: a model stands there.
+
+mod edges;
+mod model;
+mod operations;
+mod rust;
+
+use std::hint::black_box;
+
+use gorvisclen::{EXPECTED_MAX, EXTENDED_FORCED, EXTENDED_SUPPORTED, SHORT_ONLY};
+
+use self::operations::Asked;
+use crate::inputs::Inputs;
+use crate::tally::Tally;
+
+const MODES: [u8; 3] = [SHORT_ONLY, EXTENDED_SUPPORTED, EXTENDED_FORCED];
+
+/// Expected lengths around each boundary; Max by several numbers, of which some would be small if they were cut.
+const EXPECTED: [u32; 20] = [
+    0,
+    1,
+    2,
+    254,
+    255,
+    256,
+    257,
+    258,
+    511,
+    512,
+    65_280,
+    65_534,
+    65_535,
+    EXPECTED_MAX,
+    65_537,
+    65_791,
+    65_792,
+    131_071,
+    1 << 24,
+    u32::MAX,
+];
+
+/// Lengths of data around each boundary.
+const SHORT: [usize; 10] = [0, 1, 2, 5, 254, 255, 256, 257, 511, 512];
+const LONG: [usize; 3] = [65_280, 65_534, 65_535];
+
+/// Lengths that are too long; cut to two bytes, each would be one that is not.
+const TOO_LONG: [usize; 6] = [65_536, 65_537, 65_541, 65_791, 65_792, 131_072];
+
+/// Headers, the last one of a class that is refused.
+const HEADERS: [[u8; 4]; 6] = [
+    [0x00, 0xA4, 0x04, 0x00],
+    [0x80, 0xDB, 0x3F, 0xFF],
+    [0x10, 0x00, 0xFF, 0x01],
+    [0xEF, 0xFF, 0x00, 0x00],
+    [0xFE, 0x61, 0x01, 0x02],
+    [0xFF, 0xA4, 0x04, 0x00],
+];
+
+/// Commands that are refused, with 1, 3, 4 and 5.
+const REFUSED: [&[u8]; 9] = [
+    &[],
+    &[0x00, 0xA4, 0x04],
+    &[0xFF, 0xFF, 0xFF],
+    &[0xFF, 0xA4, 0x04, 0x00],
+    &[0xFF, 0xA4, 0x04, 0x00, 0x00, 0x05],
+    &[0x00, 0xA4, 0x04, 0x00, 0x02, 0xAA],
+    &[0x00, 0xA4, 0x04, 0x00, 0x01, 0xAA, 0xBB, 0xCC],
+    &[0x00, 0xA4, 0x04, 0x00, 0x00, 0x05],
+    &[0x00, 0xA4, 0x04, 0x00, 0x00, 0x00, 0x01, 0xAA, 0xBB],
+];
+
+fn some_header(inputs: &mut Inputs) -> [u8; 4] {
+    let any = (inputs.number() as u32).to_be_bytes();
+    match inputs.below(3) {
+        0 => HEADERS[inputs.below(HEADERS.len())],
+        _ => any,
+    }
+}
+
+fn some_mode(inputs: &mut Inputs) -> u8 {
+    match inputs.below(4) {
+        3 => inputs.number() as u8,
+        mode => mode as u8,
+    }
+}
+
+fn some_expected(inputs: &mut Inputs) -> u32 {
+    match inputs.below(4) {
+        0 => inputs.below(70_000) as u32,
+        1 => inputs.below(600) as u32,
+        _ => EXPECTED[inputs.below(EXPECTED.len())],
+    }
+}
+
+/// Both lengths, with `out` long enough and too short.
+fn every_number(tally: &mut Tally, inputs: &mut Inputs, asked: &Asked) {
+    asked.required_len(tally, 1 + inputs.below(2), true);
+    asked.force_extended(tally, 1 + inputs.below(2), true);
+    match inputs.below(2) {
+        0 => asked.required_len(tally, 0, true),
+        _ => asked.force_extended(tally, 0, true),
+    }
+}
+
+/// Buffers that it fits exactly from a place, that are a byte short and a byte longer; and places around the end.
+fn around_the_end(tally: &mut Tally, inputs: &mut Inputs, asked: &Asked, before: usize) {
+    let need = asked.len_in(asked.mode);
+    let exact = before + need;
+    for buffer_len in [exact, exact - 1, exact + 1] {
+        asked.write(tally, buffer_len, before, 1 + inputs.below(2));
+        asked.write(tally, buffer_len, before + 1, 1);
+    }
+    asked.write(tally, exact + inputs.below(2), before, 0);
+    let past = [
+        exact,
+        exact + 1,
+        exact + 65_536,
+        before + (1 << 32),
+        usize::MAX,
+        (usize::MAX - need).wrapping_add(1),
+        (usize::MAX - need).wrapping_add(1 + before),
+    ];
+    for at in past {
+        asked.write(tally, exact, at, 1);
+    }
+}
+
+/// Held against commands that are equal, that differ in one field, and that are refused.
+fn every_comparison(tally: &mut Tally, inputs: &mut Inputs, asked: &Asked) {
+    let &Asked {
+        header, le, data, ..
+    } = asked;
+    let n = data.len();
+    let ne = model::compared(le);
+    // Its own bytes, in which Le is lowered and Max is 65,536; then its fields in both forms.
+    let mut apdus = vec![model::command(header, le, asked.mode, data)];
+    for mode in [EXTENDED_SUPPORTED, EXTENDED_FORCED] {
+        apdus.push(model::command(header, ne, mode, data));
+    }
+    let form = 1 + inputs.below(2) as u8;
+    for i in 0..4 {
+        let mut other = header;
+        other[i] ^= 1 + inputs.below(255) as u8;
+        apdus.push(model::command(other, ne, form, data));
+    }
+    let lengths = [ne.saturating_sub(1), ne + 1, 0, 256, 65_535, EXPECTED_MAX];
+    for other in lengths {
+        apdus.push(model::command(header, other, form, data));
+    }
+    if n > 0 {
+        for at in [0, inputs.below(n), n - 1] {
+            let mut other = data.to_vec();
+            other[at] ^= 1 << inputs.below(8);
+            apdus.push(model::command(header, ne, form, &other));
+        }
+        apdus.push(model::command(header, ne, form, &data[1..]));
+        apdus.push(model::command(header, ne, form, &data[..n - 1]));
+    }
+    if n == 0 {
+        // An extended Lc of zero, which the crate's reading takes.
+        let [.., high, low] = ne.to_be_bytes();
+        apdus.push([&header[..], &[0, 0, 0, high, low]].concat());
+    }
+    if n < 65_535 {
+        let longer = [data, &[inputs.number() as u8]].concat();
+        apdus.push(model::command(header, ne, form, &longer));
+    }
+    apdus.push(inputs.damaged(&apdus[1]));
+    apdus.push(REFUSED[inputs.below(REFUSED.len())].to_vec());
+    for apdu in &apdus {
+        asked.equals(tally, apdu, 1 + inputs.below(2));
+    }
+    asked.equals(tally, &apdus[inputs.below(apdus.len())], 0);
+}
+
+fn every_operation(tally: &mut Tally, inputs: &mut Inputs, asked: &Asked) {
+    every_number(tally, inputs, asked);
+    let before = inputs.below(4);
+    around_the_end(tally, inputs, asked, before);
+    if asked.header[0] != 0xFF {
+        asked.read_back(tally, before);
+    }
+    every_comparison(tally, inputs, asked);
+}
+
+/// Lengths of data and expected lengths around each boundary, in every mode.
+fn every_boundary(tally: &mut Tally, inputs: &mut Inputs) {
+    let row = inputs.bytes(65_535);
+    for n in SHORT.into_iter().chain(LONG) {
+        for le in EXPECTED {
+            for mode in MODES {
+                for _ in 0..if n < 1_000 { 4 } else { 1 } {
+                    let header = some_header(inputs);
+                    let start = inputs.below(65_536 - n);
+                    let asked = Asked::new(header, le, mode, &row[start..start + n]);
+                    every_operation(tally, inputs, &asked);
+                }
+            }
+        }
+    }
+}
+
+/// Long commands from a place that is far behind.
+fn far_places(tally: &mut Tally, inputs: &mut Inputs) {
+    let row = inputs.bytes(65_535);
+    for n in [0, 256, 65_535] {
+        for le in [0, 256, EXPECTED_MAX] {
+            for mode in MODES {
+                let asked = Asked::new(HEADERS[1], le, mode, &row[..n]);
+                for before in [255, 65_532, 66_000] {
+                    around_the_end(tally, inputs, &asked, before);
+                }
+            }
+        }
+    }
+}
+
+/// Every expected length, to more than Max, without data, with a byte, and with as many as are just short and just not.
+fn every_expected_length(tally: &mut Tally, inputs: &mut Inputs) {
+    let header = HEADERS[0];
+    let row = inputs.bytes(256);
+    for le in 0..=65_540 {
+        for mode in MODES {
+            for n in [0, 1, 255, 256] {
+                let asked = Asked::new(header, le, mode, &row[..n]);
+                asked.required_len(tally, 1, true);
+                if n < 2 {
+                    asked.write(tally, 12, 1, 1);
+                    asked.read_back(tally, 0);
+                }
+                if mode > 0 || le % 64 == 0 {
+                    asked.force_extended(tally, 1, true);
+                }
+            }
+        }
+    }
+}
+
+/// Every length of data to 65,540. Their bytes are compared at the end alone.
+fn every_length(tally: &mut Tally, inputs: &mut Inputs) {
+    let header = HEADERS[1];
+    let row = inputs.bytes(65_540);
+    let before = row.clone();
+    for n in 0..=65_540 {
+        for mode in MODES {
+            for le in [0, 1, 256, 257, EXPECTED_MAX] {
+                let asked = Asked::new(header, le, mode, &row[..n]);
+                asked.required_len(tally, 1, false);
+                if mode > 0 {
+                    asked.force_extended(tally, 1, false);
+                }
+            }
+        }
+    }
+    assert!(*black_box(&row) == before, "a call changed data");
+}
+
+/// Every mode byte.
+fn every_mode(tally: &mut Tally, inputs: &mut Inputs) {
+    let row = inputs.bytes(256);
+    for mode in 0..=255 {
+        for n in [0, 1, 255, 256] {
+            for le in [0, 1, 256, 257, 65_535, EXPECTED_MAX] {
+                let asked = Asked::new(some_header(inputs), le, mode, &row[..n]);
+                every_operation(tally, inputs, &asked);
+            }
+        }
+    }
+}
+
+/// Every byte in each place of the header.
+fn every_header(tally: &mut Tally, inputs: &mut Inputs) {
+    for i in 0..4 {
+        for byte in 0..=255 {
+            for mode in MODES {
+                let mut header = [0x00, 0xA4, 0x04, 0x0C];
+                header[i] = byte;
+                let n = inputs.below(4);
+                let data = &inputs.bytes(n);
+                let le = some_expected(inputs);
+                let asked = Asked::new(header, le, mode, data);
+                every_operation(tally, inputs, &asked);
+            }
+        }
+    }
+}
+
+/// Every two bytes in each place of the header, one to build and one that was read.
+fn every_two_bytes(tally: &mut Tally) {
+    for i in 0..4 {
+        for both in 0..=u16::MAX {
+            let [mut header, mut other] = [HEADERS[0]; 2];
+            [header[i], other[i]] = both.to_be_bytes();
+            let asked = Asked::new(header, 5, EXTENDED_SUPPORTED, &[0x24]);
+            let apdu = model::command(other, 5, EXTENDED_SUPPORTED, &[0x24]);
+            asked.equals(tally, &apdu, 1);
+        }
+    }
+}
+
+/// Small buffers: every place from the beginning to past the end, `out` of every length to 2.
+fn every_place(tally: &mut Tally, inputs: &mut Inputs) {
+    for mode in MODES {
+        for n in [0, 1, 5] {
+            for le in [0, 1, 256, 257, EXPECTED_MAX] {
+                let data = &inputs.bytes(n);
+                let header = HEADERS[inputs.below(HEADERS.len() - 1)];
+                let asked = Asked::new(header, le, mode, data);
+                for buffer_len in 0..=16 {
+                    for at in (0..=buffer_len + 3).chain([usize::MAX - 1, usize::MAX]) {
+                        for len in 0..=2 {
+                            asked.write(tally, buffer_len, at, len);
+                        }
+                    }
+                }
+            }
+        }
+    }
+}
+
+/// Commands around each boundary with every place from the beginning to past the end; of the longest, the places at both ends and
+/// every 1,021st between them.
+fn every_place_at_a_boundary(tally: &mut Tally, inputs: &mut Inputs) {
+    let row = inputs.bytes(65_535);
+    for n in [0, 1, 254, 255, 256, 257, 65_535] {
+        for (mode, le) in [(0, 5), (1, 0), (1, 256), (1, 257), (2, EXPECTED_MAX)] {
+            let asked = Asked::new(HEADERS[1], le, mode, &row[..n]);
+            let need = asked.len_in(mode);
+            for buffer_len in [need - 1, need, need + 3] {
+                for at in 0..=buffer_len + 3 {
+                    let inner = at > 16 && at + 16 < buffer_len;
+                    if n > 257 && inner && at % 1_021 != 0 {
+                        continue;
+                    }
+                    asked.write(tally, buffer_len, at, 1);
+                }
+            }
+        }
+    }
+}
+
+/// Data that are too long: 13, before 16 and behind 3; and each refusal of a command read beside it.
+fn too_long(tally: &mut Tally, inputs: &mut Inputs) {
+    let row = inputs.bytes(131_072);
+    for n in TOO_LONG {
+        for mode in MODES {
+            for header in [HEADERS[0], HEADERS[5]] {
+                let le = EXPECTED[inputs.below(EXPECTED.len())];
+                let asked = Asked::new(header, le, mode, &row[..n]);
+                for len in 0..=2 {
+                    asked.required_len(tally, len, true);
+                    asked.force_extended(tally, len, true);
+                }
+                for (buffer_len, at) in [(n + 20, 3), (0, 0), (0, 1), (n, 0), (8, usize::MAX)] {
+                    asked.write(tally, buffer_len, at, inputs.below(3));
+                }
+                let own = model::command(header, 0, mode, &row[..n % 65_536]);
+                for apdu in REFUSED.into_iter().chain([&own[..]]) {
+                    asked.equals(tally, apdu, inputs.below(3));
+                }
+            }
+        }
+    }
+}
+
+/// Each refusal of a command read beside builders that are made and that are not.
+fn every_refused(tally: &mut Tally) {
+    for apdu in REFUSED {
+        for header in HEADERS {
+            for mode in MODES {
+                for len in 0..=2 {
+                    Asked::new(header, 0, mode, &[]).equals(tally, apdu, len);
+                }
+            }
+        }
+    }
+}
+
+/// Any header, mode, expected length and data.
+fn random(tally: &mut Tally, inputs: &mut Inputs) {
+    for i in 0..15_000 {
+        let most = match i % 1_000 {
+            0 => 65_536,
+            _ => [2, 20, 300, 700][inputs.below(4)],
+        };
+        let n = inputs.below(most);
+        let data = &inputs.bytes(n);
+        let (header, le) = (some_header(inputs), some_expected(inputs));
+        let asked = Asked::new(header, le, some_mode(inputs), data);
+        every_operation(tally, inputs, &asked);
+    }
+}
+
+pub fn compare(tally: &mut Tally, inputs: &mut Inputs) {
+    edges::written(tally);
+    edges::compared(tally);
+    every_boundary(tally, inputs);
+    far_places(tally, inputs);
+    every_expected_length(tally, inputs);
+    every_length(tally, inputs);
+    every_mode(tally, inputs);
+    every_header(tally, inputs);
+    every_two_bytes(tally);
+    every_place(tally, inputs);
+    every_place_at_a_boundary(tally, inputs);
+    too_long(tally, inputs);
+    every_refused(tally);
+    random(tally, inputs);
+}
