@@ -74,7 +74,7 @@ returns-4 c =
     let e = fits (b z) (d z) (m z) (at z) (z .before .before .if1 .left) (omega (arith, sum-is z, z .before .if2 .left, i .if3 .left)) in
     record {
       reply = ap is (sum-is z) ∙ sym e;
-      buffer = rw (e, ← laid-is z) (c .before .before .put-command .ensures);
+      buffer = rw e (rw (laid-is z) at (c .before .before .put-command .ensures));
     }
 
 pub serialize-into-spec : {M : Type 1} → statement M
