@@ -188,8 +188,7 @@ fn every_boundary(tally: &mut Tally, inputs: &mut Inputs) {
     }
 }
 
-/// The boundaries with every place from the beginning to past the end; of the longest, the places at both ends and every 251st
-/// between them.
+/// The boundaries with every place from the beginning to past the end. The longest have one buffer, a little longer than needed.
 fn every_place_at_a_boundary(tally: &mut Tally, inputs: &mut Inputs) {
     let row = &inputs.bytes(65_536);
     for n in [0, 127, 128, 255, 256, 65_535, 65_536] {
@@ -199,12 +198,10 @@ fn every_place_at_a_boundary(tally: &mut Tally, inputs: &mut Inputs) {
             value,
         };
         let need = DataSource::len(&object.rust());
-        for buffer_len in [need - 1, need, need + 3] {
+        let buffers = [need + 3, need, need - 1];
+        let count = if n > 256 { 1 } else { buffers.len() };
+        for &buffer_len in &buffers[..count] {
             for at in 0..=buffer_len + 3 {
-                let inner = at > 16 && at + 16 < buffer_len;
-                if n > 256 && inner && at % 251 != 0 {
-                    continue;
-                }
                 object.write(tally, buffer_len, at, 1);
             }
         }
