@@ -24,14 +24,18 @@ returns-3 : tie.Need-returns-3
 unfolding sameHeader
 returns-3 c =
     let t = c .before .before .before in
-    rw (eq-eqb _ _ (alike (t .before .before .before)), eq-eqb _ _ (t .if2 .left), ne-eqb _ _ (c .if3 .taken))
+    let e = t .before .before .before in
+    let a = e .before .before .before .before .before .args in
+    rw (eq-eqb _ _ (alike e), eq-eqb _ _ (t .if2 .left), ne-eqb (a .builder .p1) (a .view .p1) (c .if3 .taken))
 
 returns-4 : tie.Need-returns-4
 unfolding sameHeader
 returns-4 c =
     let u = c .before .before in
     let t = u .before .before .before in
-    rw (eq-eqb _ _ (alike (t .before .before .before)), eq-eqb _ _ (t .if2 .left), eq-eqb _ _ (u .if3 .left))
+    let e = t .before .before .before in
+    let a = e .before .before .before .before .before .args in
+    rw (eq-eqb _ _ (alike e), eq-eqb _ _ (t .if2 .left), eq-eqb (a .builder .p1) (a .view .p1) (u .if3 .left))
 
 pub same-header-spec : {M : Type 1} → statement M
 same-header-spec =
