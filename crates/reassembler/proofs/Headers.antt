@@ -1,0 +1,48 @@
+-- Whether a piece continues a chain, and whether it is the last. Assumes nothing.
+use Prim.Native.Nat.{ℕ}
+use mathlib.Core.Path.{_≡_, refl, sym, ap, _∙_}
+use mathlib.Core.Bool.{Bool, true, false, cond}
+use borrow.Author.Tests.{eq-eqb, ne-eqb}
+use lib.Dec.{eqb}
+use Rattle.class.specs.Chain.{bit, chained, chainOf, notTheLast}
+use Rattle.class.specs.declared.Class.{Class}
+use Rattle.class.specs.declared.chain.Chain.{Chain}
+use Rattle.class.specs.declared.chain.Chain.the-variants.{LastOrOnly, NotTheLast}
+use Rattle.command.specs.declared.CommandView.{CommandView}
+use Rattle.reassembler.specs.Join.{sameClass, continuesOpen}
+use Rattle.reassembler.specs.declared.Held.{Held}
+
+-- classes by their bytes with the bit set
+pub same-class : (c d x y : Class) → x ≡ record { cla = chained (c .cla) } → y ≡ record { cla = chained (d .cla) }
+    → eqb (x .cla) (y .cla) ≡ sameClass c d
+unfolding sameClass
+same-class c d x y e f = rw (e, f)
+
+-- a header by its parts, one after the other
+module _ (h : Held) (v : CommandView) where
+  pub not-class : sameClass (h .class) (v .class) ≡ false → false ≡ continuesOpen h v
+  unfolding continuesOpen
+  not-class e = rw e
+
+  module _ (class : sameClass (h .class) (v .class) ≡ true) where
+    pub not-instruction : (h .instruction ≡ v .instruction → ⊥) → false ≡ continuesOpen h v
+    unfolding continuesOpen
+    not-instruction e = rw (class, ne-eqb (h .instruction) (v .instruction) e)
+
+    module _ (instruction : h .instruction ≡ v .instruction) where
+      pub not-p1 : (h .p1 ≡ v .p1 → ⊥) → false ≡ continuesOpen h v
+      unfolding continuesOpen
+      not-p1 e = rw (class, eq-eqb (h .instruction) (v .instruction) instruction, ne-eqb (h .p1) (v .p1) e)
+
+      pub by-p2 : h .p1 ≡ v .p1 → eqb (h .p2) (v .p2) ≡ continuesOpen h v
+      unfolding continuesOpen
+      by-p2 e = rw (class, eq-eqb (h .instruction) (v .instruction) instruction, eq-eqb (h .p1) (v .p1) e)
+
+-- the chaining bit, from what the class says of it
+told : (x : Bool) → notTheLast (cond x NotTheLast LastOrOnly) ≡ x
+told true = refl
+told false = refl
+
+pub bit-is : (c : Class) (x : Chain) (y z : Bool) → x ≡ chainOf (c .cla) → y ≡ notTheLast x → y ≡ z → eqb (bit (c .cla)) 1 ≡ z
+unfolding chainOf
+bit-is c x y z e f g = sym (told (eqb (bit (c .cla)) 1)) ∙ ap notTheLast (sym e) ∙ sym f ∙ g

@@ -1,0 +1,3 @@
+pub mod Headers
+pub mod Pieces
+pub mod Single

@@ -1,0 +1,29 @@
+use borrow.Author.Needs.{needs}
+use Rattle.reassembler.proofs.Headers.{bit-is}
+use Rattle.reassembler.proofs.Pieces.{more, last}
+use Rattle.reassembler.proofs.Reassembler.accepted.Statement.{statement}
+use Rattle.reassembler.proofs.Reassembler.accepted.Tie as tie
+
+returns : tie.Need-returns
+returns c =
+    let n = c .before in
+    let a = n .before .before .before .args in
+    more (a .self) (a .view) (a .len) (bit-is _ _ _ _ (n .before .chain .ensures) (n .not-the-last .ensures) (c .if1 .taken))
+
+returns-2 : tie.Need-returns-2
+returns-2 c =
+    let i = c .before in
+    let n = i .before in
+    let a = n .before .before .before .args in
+    last (a .self) (a .view) (a .len) _ (bit-is _ _ _ _ (n .before .chain .ensures) (n .not-the-last .ensures) (i .if1 .left))
+    (c .command .ensures)
+
+pub accepted-spec : {M : Type 1} → statement M
+accepted-spec =
+    tie.close
+    (tie.spec
+    (λ c κs. search needs)
+    (λ c κs. search needs)
+    returns
+    (λ c κs. search needs)
+    returns-2)

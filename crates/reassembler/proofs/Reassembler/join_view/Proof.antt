@@ -1,0 +1,52 @@
+use borrow.Author.Needs.{needs}
+use borrow.Author.Tests.{not-true, not-false}
+use mathlib.Core.Path.{sym, _∙_}
+use Rattle.reassembler.proofs.Pieces.{apart, refused, taken}
+use Rattle.reassembler.proofs.Reassembler.join_view.Statement.{statement}
+use Rattle.reassembler.proofs.Reassembler.join_view.Tie as tie
+
+returns : tie.Need-returns
+returns c =
+    let i = c .before in
+    let n = i .before in
+    let a = n .before .before .before .args in
+    apart (a .self) (a .view) (a .«data» .now) (a .room .now) _ (sym (n .continues .ensures) ∙ not-true _ (i .if1 .taken)) (c .refused .ensures)
+
+returns-2 : tie.Need-returns-2
+returns-2 c =
+    let k = c .before .before in
+    let x = k .before .before .before .before in
+    let h = x .before .before .before in
+    let i = h .before in
+    let a = i .before .before .before .before .args in
+    refused (a .self) (a .view) (a .«data» .now) (a .room .now) (sym (i .before .continues .ensures) ∙ not-false _ (i .if1 .left)) _ _ _ _
+    (h .held .ensures) (x .before .before .command .ensures) (x .extend-from-command-view .ensures) _ _ (k .answer .given .1) (c .refused2 .ensures)
+
+returns-3 : tie.Need-returns-3
+returns-3 c =
+    let k = c .before .before in
+    let x = k .before .before .before .before in
+    let h = x .before .before .before in
+    let i = h .before in
+    let a = i .before .before .before .before .args in
+    taken (a .self) (a .view) (a .«data» .now) (a .room .now) (sym (i .before .continues .ensures) ∙ not-false _ (i .if1 .left)) _ _ _ _
+    (h .held .ensures) (x .before .before .command .ensures) (x .extend-from-command-view .ensures) _ (k .enum-told .given .1) (c .accepted .ensures)
+
+pub join-view-spec : {M : Type 1} → statement M
+join-view-spec =
+    tie.close
+    (tie.spec
+    (λ c κs. search needs)
+    (λ c κs. search needs)
+    returns
+    (λ c κs. search needs)
+    (λ c κs. search needs)
+    (λ c κs. search needs)
+    (λ c. search needs)
+    (λ c κs. search needs)
+    (λ c. search needs)
+    (λ c κs. search needs)
+    (λ c. search needs)
+    returns-2
+    (λ c. search needs)
+    returns-3)

@@ -1,0 +1,32 @@
+use borrow.Author.Needs.{needs}
+use borrow.Author.Tests.{not-true, not-false}
+use mathlib.Core.Path.{_≡_, sym, _∙_}
+use mathlib.Core.Bool.{true}
+use Rattle.reassembler.specs.Join.{sameClass}
+use Rattle.reassembler.proofs.Headers.{not-class, not-instruction, not-p1, by-p2}
+use Rattle.reassembler.proofs.continues_open.Statement.{statement}
+use Rattle.reassembler.proofs.continues_open.Tie as tie
+
+-- the class is the same, where the other fields are looked at
+class : (c : tie.Else1) → let a = c .before .before .before .before .args in sameClass (a .held .class) (a .view .class) ≡ true
+class c = sym (c .before .same-class .ensures) ∙ not-false _ (c .if1 .left)
+
+returns : tie.Need-returns
+returns c = not-class _ _ (sym (c .before .same-class .ensures) ∙ not-true _ (c .if1 .taken))
+
+returns-2 : tie.Need-returns-2
+returns-2 c = not-instruction _ _ (class (c .before .before .before)) (c .if2 .taken)
+
+returns-3 : tie.Need-returns-3
+returns-3 c =
+    let i = c .before .before .before in
+    not-p1 _ _ (class (i .before .before .before)) (i .if2 .left) (c .if3 .taken)
+
+returns-4 : tie.Need-returns-4
+returns-4 c =
+    let p = c .before .before in
+    let i = p .before .before .before in
+    by-p2 _ _ (class (i .before .before .before)) (i .if2 .left) (p .if3 .left)
+
+pub continues-open-spec : {M : Type 1} → statement M
+continues-open-spec = tie.close (tie.spec (λ c κs. search needs) returns returns-2 returns-3 returns-4)
