@@ -35,6 +35,11 @@ module _ (r : Reading) (s room : List ℕ) where
         buffer = g ∙ rw (part r s v e, e, le-ltb (length room) (v .len) h);
       }
 
+-- held and new data that a room has place for
+pub fitting-is : (held n m : ℕ) → held + n ≤ m → fitting held n m ≡ is (held + n)
+unfolding fitting
+fitting-is held n m h = rw (le-ltb m (held + n) h)
+
 -- an extension: new data do not fit, or stand behind those held
 module _ (c : Command) (v : CommandView) (d room : List ℕ) where
   pub no-room : (x : Extended) → length room < c .len + length d → x ≡ refusedOf v (c .len) → extended-is c v d room x room

@@ -38,6 +38,14 @@ module _ (h : Held) (v : CommandView) where
       unfolding continuesOpen
       by-p2 e = rw (class, eq-eqb (h .instruction) (v .instruction) instruction, eq-eqb (h .p1) (v .p1) e)
 
+      pub continues-is : h .p1 ≡ v .p1 → h .p2 ≡ v .p2 → continuesOpen h v ≡ true
+      continues-is e f = sym (by-p2 e) ∙ eq-eqb (h .p2) (v .p2) f
+
+-- classes that differ in the bit alone
+pub same-class-is : (c d : Class) → chained (c .cla) ≡ chained (d .cla) → sameClass c d ≡ true
+unfolding sameClass
+same-class-is c d e = eq-eqb (chained (c .cla)) (chained (d .cla)) e
+
 -- the chaining bit, from what the class says of it
 told : (x : Bool) → notTheLast (cond x NotTheLast LastOrOnly) ≡ x
 told true = refl

@@ -1,3 +1,4 @@
 pub mod Headers
 pub mod Pieces
+pub mod Steps
 pub mod Single

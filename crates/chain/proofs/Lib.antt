@@ -1,0 +1,5 @@
+pub mod Runs
+pub mod Cuts
+pub mod Jobs
+pub mod Noise
+pub mod Demand

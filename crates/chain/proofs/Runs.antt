@@ -1,0 +1,33 @@
+-- Laws of runs: a piece, and lists of pieces one behind the other. Assumes nothing.
+use Prim.Native.Nat.{ℕ}
+use mathlib.Core.Path.{_≡_, refl, ap, _∙_}
+use mathlib.Core.List.{List, [], _∷_, _++_}
+use Rattle.reassembler.specs.Join.{Outcome, joinOf}
+use Rattle.reassembler.specs.declared.Reassembler.{Reassembler}
+use Rattle.chain.specs.Run.{heard, Run, behind, run}
+
+pub run-none : (r : Reassembler) (room : List ℕ) → run r room [] ≡ record { replies = []; state = r; room = room }
+unfolding run
+run-none r room = refl
+
+-- a first piece with a known outcome
+pub run-first : (r : Reassembler) (room p : List ℕ) (ps : List (List ℕ)) (o : Outcome) → joinOf r room p ≡ o
+    → run r room (p ∷ ps) ≡ behind (heard o) (run (o .state) (o .room) ps)
+unfolding run
+run-first r room p ps o e = ap (λ (o : Outcome). behind (heard o) (run (o .state) (o .room) ps)) e
+
+-- a run behind another
+abbrev pub then : Run → Run → Run
+then x y = record { replies = x .replies ++ y .replies; state = y .state; room = y .room }
+
+pub run-append : (r : Reassembler) (room : List ℕ) (ps qs : List (List ℕ))
+    → run r room (ps ++ qs) ≡ then (run r room ps) (run (run r room ps .state) (run r room ps .room) qs)
+unfolding run
+run-append r room [] qs = refl
+run-append r room (p ∷ ps) qs =
+    let o = joinOf r room p in
+    ap (behind (heard o)) (run-append (o .state) (o .room) ps qs)
+
+pub run-after : (r : Reassembler) (room : List ℕ) (ps qs : List (List ℕ)) (x : Run) → run r room ps ≡ x
+    → run r room (ps ++ qs) ≡ then x (run (x .state) (x .room) qs)
+run-after r room ps qs x e = run-append r room ps qs ∙ ap (λ (x : Run). then x (run (x .state) (x .room) qs)) e

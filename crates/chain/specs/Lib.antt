@@ -1,0 +1,3 @@
+pub mod Run
+pub mod Jobs
+pub mod Noise
