@@ -11,6 +11,7 @@ use std::hint::black_box;
 use gorvisclen::{EXPECTED_MAX, EXTENDED_FORCED, EXTENDED_SUPPORTED, SHORT_ONLY};
 
 use self::operations::Asked;
+pub use self::rust::unless_it_panics;
 use crate::inputs::Inputs;
 use crate::tally::Tally;
 

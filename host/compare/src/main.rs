@@ -8,6 +8,7 @@ mod class;
 mod command;
 mod inputs;
 mod lent;
+mod splitter;
 mod tally;
 mod tlv;
 
@@ -37,5 +38,6 @@ fn main() {
     command::compare(&mut tally, &mut inputs);
     tlv::compare(&mut tally, &mut inputs);
     builder::compare(&mut tally, &mut inputs);
+    splitter::compare(&mut tally, &mut inputs);
     tally.finish();
 }

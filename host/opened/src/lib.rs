@@ -1,6 +1,7 @@
-//! The Rust's command.rs and the files below it once more, unchanged, in a module with one function more, which sees what is
-//! private there. It makes a builder in the mode short only of any data and any expected length. From outside such builders come
-//! only as pieces of a chain, which have at most 255 bytes and never expect Max.
+//! The Rust's command.rs and the files below it once more, unchanged, in a module with a few functions more, which see what is
+//! private there. One makes a builder in the mode short only of any data and any expected length. From outside such builders come
+//! only as pieces of a chain, which have at most 255 bytes and never expect Max. The others show the fields of a builder, and make
+//! a chain of what is left of a command and show it.
 #![no_std]
 
 /// As in the crate's lib.rs.
@@ -22,5 +23,33 @@ pub mod command {
             extended_length: ExtendedLen::Unsupported,
             ..made
         }
+    }
+    /// The fields of a builder beside its data: header, expected length, and mode (0 short only, 1 supported, 2 forced).
+    pub fn fields(builder: &CommandBuilder<&[u8]>) -> ([u8; 4], ExpectedLen, u8) {
+        let header = [
+            builder.class.into_inner(),
+            builder.instruction.into(),
+            builder.p1,
+            builder.p2,
+        ];
+        let mode = match builder.extended_length {
+            ExtendedLen::Unsupported => 0,
+            ExtendedLen::Supported => 1,
+            ExtendedLen::Forced => 2,
+        };
+        (header, builder.le, mode)
+    }
+
+    /// A chain of which this is left.
+    pub fn chain(left: CommandBuilder<&[u8]>, available_len: usize) -> ChainedCommandIterator<'_> {
+        ChainedCommandIterator {
+            command: Some(left),
+            available_len,
+        }
+    }
+
+    /// What is left of a chain.
+    pub fn left<'a>(chain: &ChainedCommandIterator<'a>) -> Option<CommandBuilder<&'a [u8]>> {
+        chain.command.clone()
     }
 }

@@ -52,7 +52,7 @@ builder_of!(original);
 builder_of!(opened);
 
 /// What a call gives; nothing where it panics, which is not printed.
-fn unless_it_panics<T>(call: impl FnOnce() -> T) -> Option<T> {
+pub fn unless_it_panics<T>(call: impl FnOnce() -> T) -> Option<T> {
     let hook = panic::take_hook();
     panic::set_hook(Box::new(|_| {}));
     let done = panic::catch_unwind(AssertUnwindSafe(call));

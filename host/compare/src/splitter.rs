@@ -1,0 +1,298 @@
+//! Commands cut. Single steps run beside the Rust in every mode, whole chains in short mode, as bytes piece by piece. Where the Rust
+//! panics, ours refuses with 13 or 14; a chain for a buffer under 10, which the Rust may cut, is 14 with us.
+
+mod chains;
+mod edges;
+mod rust;
+mod steps;
+
+use std::hint::black_box;
+
+use gorvisclen::{EXPECTED_MAX, SPLIT_NUMBERS};
+
+use crate::inputs::Inputs;
+use crate::tally::Tally;
+
+/// Headers; the last one of a class that is refused, and before it one whose pieces are of that class.
+const HEADERS: [[u8; 4]; 7] = [
+    [0x00, 0xA4, 0x04, 0x00],
+    [0x80, 0xDB, 0x3F, 0xFF],
+    [0x10, 0x00, 0xFF, 0x01],
+    [0x84, 0x61, 0x01, 0x02],
+    [0xFE, 0x61, 0x01, 0x02],
+    [0xEF, 0xFF, 0x00, 0x00],
+    [0xFF, 0xA4, 0x04, 0x00],
+];
+
+/// Expected lengths around each boundary; Max by two numbers.
+const EXPECTED: [u32; 10] = [
+    0,
+    1,
+    255,
+    256,
+    257,
+    258,
+    65_534,
+    65_535,
+    EXPECTED_MAX,
+    u32::MAX,
+];
+
+/// Buffers around each boundary.
+fn buffers() -> impl Iterator<Item = usize> {
+    (0..=12)
+        .chain(255..=265)
+        .chain(65_530..=65_545)
+        .chain([131_072, 1 << 32, usize::MAX])
+}
+
+/// Lengths of data around each boundary; the last five are too long.
+fn lengths() -> impl Iterator<Item = usize> {
+    (0..=12).chain(250..=260).chain(65_520..=65_540)
+}
+
+fn some_header(inputs: &mut Inputs) -> [u8; 4] {
+    match inputs.below(3) {
+        0 => HEADERS[inputs.below(HEADERS.len())],
+        _ => (inputs.number() as u32).to_be_bytes(),
+    }
+}
+
+/// Any number, more often a small one or one around a boundary.
+fn some_len(inputs: &mut Inputs) -> usize {
+    let most = match inputs.below(8) {
+        0 => return buffers().nth(inputs.below(40)).unwrap(),
+        1 => 65_546,
+        2 => 5_000,
+        3..=4 => 20,
+        _ => 700,
+    };
+    inputs.below(most)
+}
+
+fn some_expected(inputs: &mut Inputs) -> u32 {
+    match inputs.below(4) {
+        0 => inputs.below(70_000) as u32,
+        1 => inputs.below(600) as u32,
+        _ => EXPECTED[inputs.below(EXPECTED.len())],
+    }
+}
+
+/// Steps around each boundary, in every mode.
+fn every_boundary(tally: &mut Tally, inputs: &mut Inputs) {
+    let row = inputs.bytes(65_540);
+    let before = row.clone();
+    for n in lengths() {
+        for available in buffers() {
+            for le in EXPECTED {
+                for mode in 0..3 {
+                    let asked = steps::Asked::new(some_header(inputs), le, mode, &row[..n]);
+                    let len = SPLIT_NUMBERS + inputs.below(2);
+                    asked.step(tally, available, len, n < 300);
+                    if inputs.below(8) == 0 {
+                        asked.step(tally, available, inputs.below(SPLIT_NUMBERS), false);
+                    }
+                    if available > 12 && n <= 65_535 && (n < 300 || inputs.below(64) == 0) {
+                        asked.parts(tally, available);
+                    }
+                }
+            }
+        }
+    }
+    assert!(*black_box(&row) == before, "a call changed data");
+}
+
+/// Every length of data and every buffer to 300; and for the longest data, every buffer to 65,545.
+fn every_small_step(tally: &mut Tally, inputs: &mut Inputs) {
+    let row = inputs.bytes(65_535);
+    for mode in 0..3 {
+        for le in [0, 1, 256, 257] {
+            let header = HEADERS[inputs.below(6)];
+            for n in 0..=300 {
+                let asked = steps::Asked::new(header, le, mode, &row[..n]);
+                for available in 10..=300 {
+                    asked.step(tally, available, SPLIT_NUMBERS, false);
+                }
+                for available in 0..10 {
+                    if n < 10 || n > 250 || inputs.below(10) == 0 {
+                        asked.step(tally, available, SPLIT_NUMBERS, false);
+                    }
+                }
+            }
+        }
+        for le in [0, 256, EXPECTED_MAX] {
+            let asked = steps::Asked::new(HEADERS[1], le, mode, &row);
+            for available in 0..=65_545 {
+                asked.step(tally, available, SPLIT_NUMBERS, false);
+            }
+        }
+    }
+}
+
+/// Every class byte, and every mode byte.
+fn every_class_and_mode(tally: &mut Tally, inputs: &mut Inputs) {
+    let row = inputs.bytes(300);
+    for byte in 0..=u8::MAX {
+        for n in [0, 1, 5, 255, 256, 300] {
+            for available in [9, 10, 12, 100, 261, 400] {
+                let le = some_expected(inputs);
+                let header = [byte, byte ^ 0x55, byte.wrapping_add(1), 0];
+                for mode in [0, 1, 2, byte] {
+                    let asked = steps::Asked::new(header, le, mode, &row[..n]);
+                    asked.step(tally, available, SPLIT_NUMBERS, true);
+                }
+                let asked = chains::Asked::new(header, &row[..n], le as u16, available);
+                asked.cut(tally, (1, 1), 5);
+            }
+        }
+    }
+}
+
+fn random_steps(tally: &mut Tally, inputs: &mut Inputs) {
+    let row = inputs.bytes(65_546);
+    for _ in 0..150_000 {
+        let n = some_len(inputs).min(row.len());
+        let mode = match inputs.below(4) {
+            3 => inputs.number() as u8,
+            mode => mode as u8,
+        };
+        let (header, le) = (some_header(inputs), some_expected(inputs));
+        let start = inputs.below(row.len() - n + 1);
+        let asked = steps::Asked::new(header, le, mode, &row[start..start + n]);
+        let (available, len) = (some_len(inputs), inputs.below(SPLIT_NUMBERS + 2));
+        asked.step(tally, available, len, n < 700);
+        if available > 12 && n < 700 {
+            asked.parts(tally, available);
+        }
+    }
+}
+
+/// Whole chains with every expected length to 257: data and buffers around each boundary, and the longest data.
+fn every_expected_length(tally: &mut Tally, inputs: &mut Inputs) {
+    let row = inputs.bytes(65_535);
+    let before = row.clone();
+    let cases = [
+        (0, 10),
+        (1, 10),
+        (4, 10),
+        (5, 10),
+        (300, 10),
+        (261, 11),
+        (255, 261),
+        (256, 261),
+        (257, 261),
+        (600, 261),
+        (600, 260),
+        (600, 300),
+        (2_000, 100),
+        (65_535, 261),
+    ];
+    for le in 0..=257 {
+        for (n, available) in cases {
+            let header = HEADERS[inputs.below(HEADERS.len() - 1)];
+            let asked = chains::Asked::new(header, &row[65_535 - n..], le, available);
+            let around = (inputs.below(3), inputs.below(3));
+            asked.cut(tally, around, 1 + inputs.below(40));
+        }
+        let (n, available) = (inputs.below(65_536), 60 + inputs.below(700));
+        let asked = chains::Asked::new(some_header(inputs), &row[..n], le, available);
+        asked.cut(tally, (inputs.below(3), 1), 20);
+    }
+    assert!(*black_box(&row) == before, "a call changed data");
+}
+
+/// Whole chains of many pieces: the longest data into the smallest buffers.
+fn most_pieces(tally: &mut Tally, inputs: &mut Inputs) {
+    let row = inputs.bytes(65_535);
+    for (le, available) in [(0, 10), (1, 10), (256, 10), (65_535, 10), (0, 11), (5, 12)] {
+        let asked = chains::Asked::new(HEADERS[1], &row, le, available);
+        asked.cut(tally, (0, 1), 1_000);
+    }
+}
+
+/// Whole chains for every buffer from 10 to 270, and large ones.
+fn every_buffer(tally: &mut Tally, inputs: &mut Inputs) {
+    let row = inputs.bytes(65_535);
+    for available in (10..=270).chain([511, 512, 65_535, 65_536, 70_000, 1 << 32, usize::MAX]) {
+        for n in [0, 1, 2, 9, 250, 254, 255, 256, 257, 510, 511, 512, 766] {
+            for le in [0, 1, 256, 257, 65_535] {
+                let header = HEADERS[inputs.below(HEADERS.len() - 1)];
+                let asked = chains::Asked::new(header, &row[..n], le, available);
+                asked.cut(tally, (inputs.below(3), inputs.below(2)), 30);
+            }
+        }
+    }
+    for _ in 0..40 {
+        let (n, available) = (inputs.below(65_536), 10 + inputs.below(65_600));
+        let le = some_expected(inputs) as u16;
+        let asked = chains::Asked::new(some_header(inputs), &row[..n], le, available);
+        asked.cut(tally, (inputs.below(3), 1), 50);
+    }
+}
+
+/// Chains that are not made: 3, 13, and 14 for every buffer under 10.
+fn not_made(tally: &mut Tally, inputs: &mut Inputs) {
+    let row = inputs.bytes(131_072);
+    for n in lengths().chain([65_791, 65_792, 131_072]) {
+        for available in (0..=10).chain([261]) {
+            for header in [HEADERS[0], HEADERS[5], HEADERS[6]] {
+                for le in [0, 1, 257] {
+                    if n > 300 && available == 10 {
+                        continue;
+                    }
+                    let mut asked = chains::Asked::new(header, &row[..n], le, available);
+                    asked.cut(tally, (1, 1), 9);
+                    asked.chain.place = inputs.below(4);
+                    let into = (20, inputs.below(3), inputs.below(7));
+                    asked.next_at(tally, into);
+                }
+            }
+        }
+    }
+}
+
+/// Single pieces of chains in any state, into any buffer.
+fn random_pieces(tally: &mut Tally, inputs: &mut Inputs) {
+    let row = inputs.bytes(65_546);
+    for _ in 0..150_000 {
+        let n = some_len(inputs).min(row.len());
+        let le = some_expected(inputs) as u16;
+        let available = some_len(inputs);
+        let mut asked = chains::Asked::new(some_header(inputs), &row[..n], le, available);
+        asked.chain.place = match inputs.below(8) {
+            0 => n + inputs.below(3),
+            1 => [usize::MAX, 1 << 32, 65_536, 70_000][inputs.below(4)],
+            2..=3 => n.saturating_sub(inputs.below(300)),
+            _ => inputs.below(n + 1),
+        };
+        asked.chain.done = inputs.below(16) == 0;
+        let buffer_len = match inputs.below(4) {
+            0 => inputs.below(20),
+            _ => inputs.below(300),
+        };
+        let at = match inputs.below(16) {
+            0 => buffer_len + inputs.below(3),
+            1 => usize::MAX - inputs.below(12),
+            _ => inputs.below(8),
+        };
+        let len = match inputs.below(8) {
+            0 => inputs.below(5),
+            _ => 5 + inputs.below(2),
+        };
+        asked.next_at(tally, (buffer_len, at, len));
+    }
+}
+
+pub fn compare(tally: &mut Tally, inputs: &mut Inputs) {
+    edges::steps(tally);
+    edges::pieces(tally);
+    every_boundary(tally, inputs);
+    every_small_step(tally, inputs);
+    every_class_and_mode(tally, inputs);
+    random_steps(tally, inputs);
+    every_expected_length(tally, inputs);
+    most_pieces(tally, inputs);
+    every_buffer(tally, inputs);
+    not_made(tally, inputs);
+    random_pieces(tally, inputs);
+}

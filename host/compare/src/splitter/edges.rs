@@ -1,0 +1,117 @@
+//! Cases whose answers are written down, from document 01.
+
+use gorvisclen::{Chain, Refused, PIECE_NUMBERS};
+
+use super::steps::Asked;
+use crate::lent::{bytes, numbers, Outcome};
+use crate::tally::Tally;
+
+const PIECES: &str = "the pieces of a chain, case by case (held to document 01)";
+
+const HEADER: [u8; 4] = [0x00, 0xDB, 0x3F, 0xFF];
+
+/// Steps: the mode, the buffer, how many data bytes, the expected length, and what the first part takes and what the rest expects;
+/// no number where the command is whole.
+type Row = (u8, usize, usize, u32, Option<(u64, u64)>);
+
+const STEPS: [Row; 16] = [
+    (0, 10, 5, 1, Some((4, 1))),
+    (0, 261, 255, 256, None),
+    (0, 261, 256, 0, Some((254, 0))),
+    // Over 255 bytes Lc and Le are counted as three and two, though a short piece follows.
+    (0, 261, 256, 5, Some((252, 5))),
+    (0, 261, 600, 256, Some((252, 256))),
+    (0, 260, 255, 256, Some((254, 256))),
+    (0, 70_000, 256, 0, Some((255, 0))),
+    // Short only lowers what the rest expects.
+    (0, 10, 5, 65_536, Some((4, 256))),
+    (1, 261, 255, 256, None),
+    (1, 261, 256, 0, Some((254, 0))),
+    (1, 12, 5, 257, Some((3, 257))),
+    (1, 65_544, 65_535, 65_536, None),
+    (1, 65_543, 65_535, 65_536, Some((65_534, 65_536))),
+    (2, 12, 5, 0, None),
+    (2, 11, 5, 0, Some((4, 0))),
+    (2, 11, 5, 1, Some((2, 1))),
+];
+
+/// The expected length, how many data bytes, the buffer, and of the pieces the data bytes and the bytes in all.
+type Cut = (u16, usize, usize, &'static [(usize, usize)]);
+
+const CUTS: [Cut; 6] = [
+    (256, 255, 261, &[(255, 261)]),
+    (0, 256, 261, &[(254, 259), (2, 7)]),
+    (5, 256, 261, &[(252, 257), (4, 10)]),
+    (256, 600, 261, &[(252, 257), (252, 257), (96, 102)]),
+    (1, 5, 10, &[(4, 9), (1, 7)]),
+    (257, 0, 10, &[(0, 5)]),
+];
+
+pub fn steps(tally: &mut Tally) {
+    let data = vec![0xAA; 65_535];
+    for (mode, available, n, le, parts) in STEPS {
+        for class in [0x00, 0x80, 0xEF, 0x10] {
+            let [_, rest @ ..] = HEADER;
+            let header = [class, rest[0], rest[1], rest[2]];
+            let answer = match parts {
+                None => [0; 6],
+                Some((len, le)) => [1, len, (class | 0x10).into(), 0, class.into(), le],
+            };
+            let asked = Asked::new(header, le, mode, &data[..n]);
+            asked.step_by_paper(tally, available, Ok(answer));
+        }
+    }
+    for mode in 0..3 {
+        let asked = |n| Asked::new(HEADER, 1, mode, &data[..n]);
+        asked(0).step_by_paper(tally, 3, Err(14));
+        asked(0).step_by_paper(tally, 4, Ok([0; 6]));
+        asked(1).step_by_paper(tally, 4, Err(14));
+    }
+}
+
+/// The sizes of the pieces that a chain writes, or the number of a refusal.
+fn sizes(chain: Result<Chain, Refused>, data: &[u8]) -> Result<Vec<(usize, usize)>, Refused> {
+    let mut chain = chain?;
+    let mut sizes = vec![];
+    let mut buffer = [0; 261];
+    while sizes.len() < 1_000 {
+        let mut told = [0; PIECE_NUMBERS];
+        chain.write_next(data, &mut buffer, 0, &mut told)?;
+        if told[0] == 0 {
+            break;
+        }
+        let next = chain.behind(told);
+        let end = if next.done { data.len() } else { next.place };
+        sizes.push((end - chain.place, told[1] as usize));
+        chain = next;
+    }
+    Ok(sizes)
+}
+
+pub fn pieces(tally: &mut Tally) {
+    let data = vec![0xAA; 65_536];
+    let mut held = |le, n, available, demanded: Result<Vec<(usize, usize)>, Refused>| {
+        let chain = Chain::new_non_extended(HEADER, &data[..n], le, available);
+        let outcome = |sizes: Result<Vec<(usize, usize)>, Refused>| {
+            let numbers_of = sizes.clone().unwrap_or_default();
+            let mut out = numbers(240);
+            for (i, (d, len)) in numbers_of.into_iter().take(120).enumerate() {
+                out.part()[2 * i] = d as u64;
+                out.part()[2 * i + 1] = len as u64;
+            }
+            Outcome::new(sizes.map(|_| ()), out, bytes(0))
+        };
+        let input = || format!("{n} data bytes, le {le}, buffer of {available} bytes");
+        let ours = sizes(chain, &data[..n]);
+        tally.compare(PIECES, &[], input, &outcome(demanded), &outcome(ours));
+    };
+    for (le, n, available, sizes) in CUTS {
+        held(le, n, available, Ok(sizes.to_vec()));
+    }
+    let many = [vec![(1, 6); 45], vec![(4, 9); 63], vec![(3, 9)]].concat();
+    assert_eq!(many.len(), 109);
+    held(1, 300, 10, Ok(many));
+    held(1, 300, 9, Err(Refused(14)));
+    held(0, 0, 9, Err(Refused(14)));
+    held(0, 65_536, 261, Err(Refused(13)));
+}
