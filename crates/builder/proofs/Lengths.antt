@@ -2,12 +2,12 @@
 use Prim.Native.Nat.{ℕ, zero, suc, _+_, _≤_}
 use mathlib.Core.Path.{_≡_, refl}
 use mathlib.Core.Bool.{Bool, true, false, cond}
-use mathlib.Core.List.{List, _++_}
+use mathlib.Core.List.{List}
 use native.Mathlib.Omega.{arith}
 use lib.Dec.{eqb}
 use lib.ListN.{length, length-append}
 use Rattle.basis.specs.Number.{be}
-use Rattle.builder.specs.Bytes.{wide, lcSize, leSize, field, shown, lcLen, leLen, header, commandOf, requiredLen}
+use Rattle.builder.specs.Bytes.{wide, lcSize, leSize, field, shown, lcLen, leLen, commandOf, requiredLen}
 use Rattle.builder.specs.declared.CommandBuilder.{CommandBuilder}
 
 choice-le : (b : Bool) (k m n : ℕ) → m ≤ k → n ≤ k → cond b m n ≤ k

@@ -1,7 +1,7 @@
 -- One reply: any two replies, and buffers at exit, that an operation's contract allows are equal. Assumes nothing.
 use Prim.Native.Nat.{ℕ}
 use mathlib.Core.Path.{_≡_, refl, _∙⁻¹_}
-use mathlib.Core.Bool.{Bool, true, false, cond}
+use mathlib.Core.Bool.{Bool, cond}
 use mathlib.Core.List.{List}
 use Rattle.basis.specs.Reply.{Reply, is, no}
 use Rattle.basis.proofs.Reply.{apart}

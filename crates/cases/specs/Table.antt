@@ -14,8 +14,8 @@ use Rattle.tlv.specs.Len.{lenOf}
 use Rattle.tlv.specs.declared.Reading.{Reading as TlvReading}
 use Rattle.tlv.specs.declared.Reading.the-variants as tlv
 use Rattle.command.specs.Body.{bodyOf}
-use Rattle.splitter.specs.Pieces.{Part, parts}
-use Rattle.splitter_laws.specs.Every.{Every}
+use Rattle.splitter.specs.Pieces.{parts}
+use Rattle.basis.specs.Every.{Every}
 use Rattle.splitter_laws.specs.Number.{sizeOf}
 use Rattle.splitter_laws.specs.Chain.{shortOf}
 

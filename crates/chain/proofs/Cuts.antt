@@ -2,7 +2,7 @@
 -- the last is "more", and the last one is the command. Assumes nothing.
 use Prim.Native.Nat.{ℕ, zero, suc, _+_, _-_, _≤_, _<_}
 use mathlib.Core.Path.{_≡_, refl, sym, ap, _∙_}
-use mathlib.Core.Bool.{Bool, true, false}
+use mathlib.Core.Bool.{Bool, true}
 use mathlib.Core.List.{List, [], _∷_, _++_, map}
 use mathlib.Core.Option.{Option, none, some}
 use native.Mathlib.Omega.{arith}
@@ -15,7 +15,6 @@ use Rattle.basis.proofs.Part.{length-put, put-put}
 use Rattle.class.specs.Chain.{bit, chained}
 use Rattle.class.specs.declared.Reading.the-variants.{Crate}
 use Rattle.command.specs.declared.CommandView.{CommandView}
-use Rattle.command.specs.declared.owned.Command.{Command}
 use Rattle.command.proofs.Cases.{ReadAs}
 use Rattle.builder.specs.Bytes.{shown, commandOf}
 use Rattle.builder.specs.declared.CommandBuilder.{CommandBuilder}
@@ -25,16 +24,16 @@ use Rattle.builder.specs.declared.ExtendedLen.{ExtendedLen}
 use Rattle.builder.specs.declared.ExtendedLen.the-variants.{Unsupported, Supported, Forced}
 use Rattle.builder_laws.specs.Read.{Expected, viewFor}
 use Rattle.builder_laws.proofs.Read.{built-read}
-use Rattle.splitter.specs.Step.{loweredLen, most, roomOf, firstOf, laterOf}
-use Rattle.splitter.specs.Pieces.{Part, parts, pieceOf, piecesOf}
+use Rattle.splitter.specs.Step.{loweredLen, most, firstOf, laterOf}
+use Rattle.splitter.specs.Pieces.{Part, parts, pieceOf}
 use Rattle.splitter_laws.proofs.Cut.{room-is, cut}
 use Rattle.splitter_laws.proofs.Parts.{later-shown}
-use Rattle.reassembler.specs.Join.{continues, heldBy, endingOf, commandIn, heldOf, Outcome, joinOf}
+use Rattle.reassembler.specs.Join.{continues, heldBy, endingOf, commandIn, heldOf, joinOf}
 use Rattle.reassembler.specs.declared.Reassembler.{Reassembler}
 use Rattle.reassembler.specs.declared.Reassembler.the-variants.{Closed, Open}
 use Rattle.reassembler.proofs.Headers.{same-class-is, continues-is}
 use Rattle.reassembler.proofs.Steps.{step-more, step-last}
-use Rattle.chain.specs.Run.{Given, heard, Run, behind, run}
+use Rattle.chain.specs.Run.{Given, Run, behind, run}
 use Rattle.chain.proofs.Runs.{run-none, run-first}
 
 -- a builder whose pieces are read: class with bit 0x10 clear and not 'EF', and an expected length

@@ -9,11 +9,11 @@ use lib.ListN.{length, replicate, length-replicate}
 use Rattle.basis.specs.Reply.{Reply, is, no}
 use Rattle.basis.specs.Part.{over}
 use Rattle.basis.proofs.Part.{length-over}
-use Rattle.splitter_laws.specs.Every.{Every}
+use Rattle.basis.specs.Every.{Every}
 use Rattle.splitter.specs.Pieces.{chainOf}
 use Rattle.splitter_laws.specs.Chain.{shortOf, startOf, answers, oneByOne}
 use Rattle.splitter_laws.proofs.Chain.{chain-is, chain-answers}
-use Rattle.splitter_laws.proofs.Every.{every-map}
+use Rattle.basis.proofs.Every.{every-weaken}
 use Rattle.splitter_laws.proofs.Parts.{fits}
 use Rattle.reassembler.specs.declared.Reassembler.the-variants.{Closed}
 use Rattle.chain.specs.Run.{Given, Run, run}
@@ -49,7 +49,7 @@ given-back [] room f h = run-none Closed room
 given-back (j ∷ js) room f h =
     let d = j .wanted .«data» in
     let long : length (over d room) ≡ length room = length-over d room (h .0) in
-    let rest = given-back js (over d room) (f .1) (every-map (λ k g. omega (arith, g, long)) js (h .1)) in
+    let rest = given-back js (over d room) (f .1) (every-weaken (HasRoom (over d room)) (HasRoom room) js (λ k g. omega (arith, g, long)) (h .1)) in
     run-after Closed room (pieces j) (stream js) _ (job-sent j (f .0) room (h .0))
     ∙ ap (then (record { replies = repliesTo j; state = Closed; room = over d room })) rest
 
@@ -95,7 +95,7 @@ stream-tells js ks f g e =
     let room : List ℕ = replicate 65535 0 in
     let held : (j : Job) → Fair j → HasRoom room j = λ j x. omega (arith, x .few, length-replicate {A = ℕ} 65535 0) in
     let replies : allReplies js ≡ allReplies ks =
-    sym (ap (λ (x : Run). x .replies) (given-back js room f (every-map held js f)))
+    sym (ap (λ (x : Run). x .replies) (given-back js room f (every-weaken (HasRoom room) Fair js held f)))
     ∙ ap (λ ps. run Closed room ps .replies) e
-    ∙ ap (λ (x : Run). x .replies) (given-back ks room g (every-map held ks g)) in
+    ∙ ap (λ (x : Run). x .replies) (given-back ks room g (every-weaken (HasRoom room) Fair ks held g)) in
     sym (commands-are js) ∙ ap commands replies ∙ commands-are ks

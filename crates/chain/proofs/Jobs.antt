@@ -1,26 +1,26 @@
 -- One command in short form, sent through a closed reassembler. Assumes nothing.
-use Prim.Native.Nat.{ℕ, _+_, _-_, _≤_}
-use mathlib.Core.Path.{_≡_, refl, sym, ap, _∙_}
-use mathlib.Core.Bool.{Bool, true, false}
-use mathlib.Core.List.{List, [], _∷_, _++_, map}
+use Prim.Native.Nat.{ℕ, _-_, _≤_}
+use mathlib.Core.Path.{_≡_, refl, _∙_}
+use mathlib.Core.Bool.{false}
+use mathlib.Core.List.{List, [], _∷_, map}
 use mathlib.Core.Option.{Option, none, some}
 use native.Mathlib.Nat.{zero-add}
 use native.Mathlib.Omega.{arith}
 use lib.ListN.{length, take, replicate, length-map, length-append, length-replicate}
 use lib.Seq.{take-append-seam}
 use Rattle.basis.specs.Reply.{Reply, is}
-use Rattle.basis.specs.Part.{over, put}
+use Rattle.basis.specs.Part.{over}
 use Rattle.basis.proofs.Part.{put-zero}
 use Rattle.builder.specs.Bytes.{shown}
 use Rattle.builder.specs.declared.CommandBuilder.{CommandBuilder}
 use Rattle.builder_laws.specs.Read.{extendedFor}
 use Rattle.builder_laws.proofs.Shown.{le-read, shown-short, extended-read}
-use Rattle.splitter.specs.Pieces.{Part, parts, pieceOf, piecesOf}
+use Rattle.splitter.specs.Pieces.{Part, parts, pieceOf}
 use Rattle.splitter_laws.specs.Chain.{shortOf}
 use Rattle.reassembler.specs.declared.Reassembler.the-variants.{Closed}
-use Rattle.chain.specs.Run.{Given, Run, run}
-use Rattle.chain.specs.Jobs.{Wanted, Job, Fair, pieces, several, given, repliesTo}
-use Rattle.chain.proofs.Cuts.{Sendable, flag, givenBy, ran, cut-sends}
+use Rattle.chain.specs.Run.{Given, run}
+use Rattle.chain.specs.Jobs.{Job, Fair, pieces, several, given, repliesTo}
+use Rattle.chain.proofs.Cuts.{Sendable, flag, cut-sends}
 
 -- the front of a room that was written over is what was written
 pub front : (d room : List ℕ) → take (length d) (over d room) ≡ d

@@ -8,7 +8,6 @@ use Rattle.class.specs.Range.{rangeOf, rangeNumber, fromCla}
 use Rattle.class.specs.SecureMessaging.{secureMessagingOf, indicationNumber, isNone}
 use Rattle.class.specs.Chain.{chained, chainOf, chainNumber, lastOrOnly, notTheLast}
 use Rattle.class.specs.Channel.{channelOf}
-use Rattle.class.specs.declared.Class.{Class}
 use Rattle.class.specs.declared.Reading.the-variants as reading
 use Rattle.class.specs.declared.range.Range.{Range}
 use Rattle.class.specs.declared.secure_messaging.SecureMessaging.{SecureMessaging}

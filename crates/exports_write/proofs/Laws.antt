@@ -6,7 +6,7 @@ use mathlib.Core.List.{List, [], _∷_}
 use borrow.Author.Tests.{lt-ltb, le-ltb}
 use lib.Dec.{ltb}
 use lib.ListN.{length}
-use Rattle.basis.specs.Reply.{Reply, is, no}
+use Rattle.basis.specs.Reply.{is, no}
 use Rattle.basis.specs.Part.{over}
 use Rattle.tell.specs.Answers.{short}
 use Rattle.tlv_write.specs.Written.{objectBytes, fitting, said, put-data-object-is}

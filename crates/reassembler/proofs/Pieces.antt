@@ -1,9 +1,8 @@
 -- What a piece comes to, from what the code did with it. Assumes nothing.
 use Prim.Native.Nat.{ℕ}
 use mathlib.Core.Path.{_≡_, refl, sym, ap, _∙_}
-use mathlib.Core.Bool.{Bool, true, false}
+use mathlib.Core.Bool.{true, false}
 use mathlib.Core.List.{List}
-use mathlib.Core.Option.{none, some}
 use lib.Dec.{eqb}
 use lib.ListN.{length}
 use Rattle.basis.specs.Reply.{Reply, is, no, status}
@@ -16,7 +15,6 @@ use Rattle.command.specs.Owned.{fitting, saidExtending, done, heldAfter, extend
 use Rattle.command.specs.declared.CommandView.{CommandView}
 use Rattle.command.specs.declared.owned.Command.{Command}
 use Rattle.command.specs.declared.owned.Extended.{Extended}
-use Rattle.command.specs.declared.owned.Extending.{Extending}
 use Rattle.command.specs.declared.owned.Extending.the-variants as extending
 use Rattle.reassembler.specs.Join.{continues, heldBy, commandIn, lengthOf, heldOf, answerOf, stateOf, viewIn, joinOf, Says, Joins, join-is}
 use Rattle.reassembler.specs.declared.Reassembler.{Reassembler}

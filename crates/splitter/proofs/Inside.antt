@@ -1,15 +1,14 @@
 -- A part takes no more than the data that are left, and a piece lies in the data. Assumes nothing.
-use Prim.Native.Nat.{ℕ, _+_, _-_, min, _≤_, _<_}
-use mathlib.Core.Path.{_≡_, refl, ap, _∙_}
-use mathlib.Core.Bool.{Bool, true, false, cond}
+use Prim.Native.Nat.{ℕ, _+_, _-_, _≤_, _<_}
+use mathlib.Core.Path.{_≡_, _∙_}
 use mathlib.Core.List.{List}
 use mathlib.Core.Option.{Option, none, some}
 use native.Mathlib.Omega.{arith}
 use borrow.Author.Tests.{leb-false}
 use lib.Dec.{ltb, leb, eqb}
 use lib.ListN.{length, drop, length-drop}
-use Rattle.basis.specs.Reply.{Reply, is, no, then}
-use Rattle.basis.proofs.Reply.{All, all-is, all-cond, all-then}
+use Rattle.basis.specs.Reply.{Reply, is, then}
+use Rattle.basis.proofs.Reply.{All, all-cond, all-then}
 use Rattle.builder.specs.declared.CommandBuilder.{CommandBuilder}
 use Rattle.builder.proofs.Data.{few}
 use Rattle.splitter.specs.Step.{roomOf, stepOf}

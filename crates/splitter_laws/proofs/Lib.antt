@@ -1,4 +1,3 @@
-pub mod Every
 pub mod Builder
 pub mod Cut
 pub mod Parts

@@ -20,11 +20,11 @@ use Rattle.builder_laws.proofs.Read.{built-ff}
 use Rattle.builder_laws.proofs.Shown.{le-read, shown-short}
 use Rattle.splitter.specs.Step.{loweredLen, most, roomOf, firstOf, laterOf}
 use Rattle.splitter.specs.Pieces.{Part, parts, pieceOf, piecesOf}
-use Rattle.splitter_laws.specs.Every.{Every}
+use Rattle.basis.specs.Every.{Every}
 use Rattle.splitter_laws.specs.Parts.{dataOf, Front, Last, Ends, RefusedBy}
 use Rattle.splitter_laws.proofs.Builder.{lengths-few, le-none, lc-part}
 use Rattle.splitter_laws.proofs.Cut.{room-is, step-whole, parts-whole, cut}
-use Rattle.splitter_laws.proofs.Every.{every-map}
+use Rattle.basis.proofs.Every.{every-weaken}
 
 -- a command whose data its room covers fits, and so does the first part where they are more
 module _ (b : CommandBuilder) (d : List ℕ) (m : ℕ) (ten : 10 ≤ m) where
@@ -188,7 +188,7 @@ more b d rest p ps l f h = (
   p ∷ h .0,
   h .1,
   ap (λ (l : List Part). p ∷ l) (h .2),
-  (f, every-map (front-later b) (h .0) (h .3)),
+  (f, every-weaken (Front b) (Front (laterOf b)) (h .0) (front-later b) (h .3)),
   last-later b d rest (h .0) p (h .1) l (h .4),
 )
 
@@ -220,4 +220,4 @@ ef-front r b p h f =
 pub ef-pieces : (r : Reading) (b : CommandBuilder) (d : List ℕ) (m : ℕ) → 10 ≤ m → length d ≤ 65535 → b .class .cla ≡ 0xEF
     → Every (RefusedBy r) (dropLast (parts b d m))
 ef-pieces r b d m ten few h =
-    every-map (λ p f. ef-front r b p h f) (dropLast (parts b d m)) (all-but-last b d m ten few .fronts)
+    every-weaken (RefusedBy r) (Front b) (dropLast (parts b d m)) (λ p f. ef-front r b p h f) (all-but-last b d m ten few .fronts)

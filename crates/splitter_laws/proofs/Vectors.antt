@@ -16,7 +16,7 @@ use Rattle.builder_laws.specs.Pieces.{unlessZero, shortLen}
 use Rattle.builder_laws.proofs.Pieces.{short-length}
 use Rattle.builder_laws.proofs.Shown.{le-read}
 use Rattle.splitter.specs.Pieces.{parts, pieceOf, piecesOf}
-use Rattle.splitter_laws.specs.Every.{Every}
+use Rattle.basis.specs.Every.{Every}
 use Rattle.splitter_laws.specs.Number.{shortRoom, shortSizesIn, shortSizes, times, shortCount}
 use Rattle.splitter_laws.specs.Vectors.{Case, table, Cuts, Vectors}
 use Rattle.splitter_laws.proofs.Chain.{chain-buffer, chain-long}

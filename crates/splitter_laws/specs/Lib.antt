@@ -1,4 +1,3 @@
-pub mod Every
 pub mod Cut
 pub mod Parts
 pub mod Number

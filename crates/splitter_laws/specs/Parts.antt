@@ -13,7 +13,7 @@ use Rattle.builder.specs.declared.ExpectedLen.the-variants.{Ne}
 use Rattle.builder.specs.declared.ExtendedLen.the-variants.{Unsupported}
 use Rattle.splitter.specs.Step.{most, firstOf, laterOf}
 use Rattle.splitter.specs.Pieces.{Part, pieceOf}
-use Rattle.splitter_laws.specs.Every.{Every}
+use Rattle.basis.specs.Every.{Every}
 
 -- the data of parts, joined
 abbrev pub dataOf : List Part → List ℕ

@@ -8,7 +8,7 @@ use Rattle.builder.specs.declared.CommandBuilder.{CommandBuilder}
 use Rattle.builder.specs.declared.ExpectedLen.the-variants.{Ne}
 use Rattle.builder.specs.declared.ExtendedLen.the-variants.{Unsupported}
 use Rattle.splitter.specs.Pieces.{parts, piecesOf, chainOf}
-use Rattle.splitter_laws.specs.Every.{Every}
+use Rattle.basis.specs.Every.{Every}
 use Rattle.splitter_laws.specs.Number.{sizeOf}
 
 -- Le, how many data bytes, the buffer, and the lengths of the parts' data

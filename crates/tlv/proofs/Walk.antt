@@ -6,13 +6,12 @@ use mathlib.Core.List.{List, [], _∷_}
 use native.Mathlib.Numerals.{add-one}
 use native.Mathlib.Omega.{arith}
 use lib.Dec.{eqb}
-use lib.ListN.{length, getD, take, drop, length-drop, drop-of-length-le}
+use lib.ListN.{length, getD, drop, length-drop, drop-of-length-le}
 use lib.Seq.{drop-cons}
 use borrow.Author.Tests.{eq-eqb, ne-eqb}
 use Rattle.basis.specs.Reply.{Reply, is, no, then}
 use Rattle.basis.proofs.Reply.{then-same}
-use Rattle.basis.proofs.Part.{rest-is}
-use Rattle.tlv.specs.Tag.{longTag, threeBytes, tagOf}
+use Rattle.tlv.specs.Tag.{tagOf}
 use Rattle.tlv.specs.Object.{Object, sizeOf, objectOf}
 use Rattle.tlv.specs.Lookup.{Span, part, seekIn, seek, follow}
 use Rattle.tlv.specs.declared.Reading.{Reading}

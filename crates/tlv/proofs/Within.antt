@@ -1,17 +1,14 @@
 -- What was read lies within the bytes that it was read in. Assumes nothing.
-use Prim.Native.Nat.{ℕ, zero, suc, _+_, _-_, _%_, _≤_, _<_}
-use mathlib.Core.Path.{_≡_, refl}
-use mathlib.Core.Bool.{Bool, false}
+use Prim.Native.Nat.{ℕ, zero, suc, _+_, _-_, _%_, _≤_}
 use mathlib.Core.List.{List, [], _∷_}
 use native.Mathlib.Omega.{arith}
 use lib.Dec.{ltb, leb, eqb}
 use lib.ListN.{length, getD, drop, length-drop, length-take}
 use borrow.Author.Tests.{leb-true, ltb-false}
-use Rattle.basis.specs.Reply.{Reply, is, no}
 use Rattle.basis.proofs.Reply.{All, all-cond, all-then, all-weaken}
 use Rattle.tlv.specs.Tag.{Tag, sizeBy, thirdBy, threeBytes, longTag, tagOf}
 use Rattle.tlv.specs.Len.{Len, lenTo82, lenOf}
-use Rattle.tlv.specs.Object.{Object, sizeOf, objectIn, objectOf}
+use Rattle.tlv.specs.Object.{Object, sizeOf, objectOf}
 use Rattle.tlv.specs.Lookup.{Span, part, whole, seekIn, seek, follow, lookup}
 use Rattle.tlv.specs.declared.Reading.{Reading}
 use Rattle.tlv.specs.declared.Reading.the-variants.{Crate, Standard}

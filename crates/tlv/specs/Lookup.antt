@@ -6,7 +6,7 @@ use mathlib.Core.List.{List, [], _∷_}
 use lib.Dec.{eqb}
 use lib.ListN.{length, take, drop}
 use Rattle.basis.specs.Reply.{Reply, is, no, then}
-use Rattle.tlv.specs.Object.{Object, sizeOf, objectOf}
+use Rattle.tlv.specs.Object.{sizeOf, objectOf}
 use Rattle.tlv.specs.declared.Reading.{Reading}
 use Rattle.tlv.specs.declared.lookup.GetDataObject.{GetDataObject}
 use Rattle.tlv.specs.declared.lookup.GetDataObject.the-variants as get

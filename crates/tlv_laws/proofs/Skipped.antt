@@ -19,7 +19,9 @@ use Rattle.tlv.specs.declared.Reading.{Reading}
 use Rattle.tlv.proofs.Within.{Ends, Lies, object-within, seek-within, lookup-within}
 use Rattle.tlv.proofs.Walk.{seek-next}
 use Rattle.tlv_laws.specs.Value.{ofValue}
-use Rattle.tlv_laws.specs.Skipped.{valueAt, passedIn, passedAt, passedFrom, passed, lastFrom, lastEntered, past, Every}
+use Rattle.basis.specs.Every.{Every}
+use Rattle.basis.proofs.Every.{every-append, every-weaken}
+use Rattle.tlv_laws.specs.Skipped.{valueAt, passedIn, passedAt, passedFrom, passed, lastFrom, lastEntered, past}
 use Rattle.tlv_laws.specs.Skipped.{covers, within, fillIn, behind, aside, refill, seen}
 use Rattle.tlv_laws.proofs.Choice.{by-test, by-reply, on-cond, same-cond, neither, second, all-self, all-both}
 use Rattle.tlv_laws.proofs.Front.{object-front}
@@ -57,14 +59,6 @@ module _ (r : Reading) (t : ℕ) where
       enough (length s) (suc (length s)) a s (omega arith) (omega arith)
       ∙ rw (e, ne-eqb (o .tag) t h) (ap (λ (qs : List Span). valueAt a o ∷ qs)
       (enough (length s) (length (drop k s)) (a + k) (drop k s) (simp length-drop (omega arith)) (omega arith)))
-
-every-append : (P : Span → Type 0) (xs ys : List Span) → Every P xs → Every P ys → Every P (xs ++ ys)
-every-append P [] ys h g = g
-every-append P (x ∷ xs) ys h g = (h .0, every-append P xs ys (h .1) g)
-
-every-weaken : (P Q : Span → Type 0) (xs : List Span) → ((q : Span) → Q q → P q) → Every Q xs → Every P xs
-every-weaken P Q [] f h = tt
-every-weaken P Q (x ∷ xs) f h = (f x (h .0), every-weaken P Q xs f (h .1))
 
 -- places outside of a part, and of all parts of a list
 covers-ahead : (q : Span) (i : ℕ) → i < q .at → covers q i ≡ false

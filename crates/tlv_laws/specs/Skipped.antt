@@ -47,11 +47,6 @@ lastEntered r s path = lastFrom r s (whole s) path
 abbrev pub past : Span → ℕ
 past p = p .at + p .len
 
--- what holds of every part of a list
-abbrev pub Every : (Span → Type 0) → List Span → Type 0
-Every P [] = Unit {0}
-Every P (q ∷ qs) = P q × Every P qs
-
 -- whether a place lies in a part, and in one of several
 unfoldable pub covers : Span → ℕ → Bool
 covers q i = cond (leb (q .at) i) (ltb i (q .at + q .len)) false

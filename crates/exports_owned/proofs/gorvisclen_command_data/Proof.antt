@@ -1,5 +1,5 @@
 use borrow.Author.Needs.{needs}
-use mathlib.Core.Path.{_≡_, refl, sym, ap, _∙_}
+use mathlib.Core.Path.{refl, sym, ap, _∙_}
 use Rattle.command.specs.Command.{dataIn, said}
 use Rattle.exports_owned.proofs.gorvisclen_command_data.Statement.{statement}
 use Rattle.exports_owned.proofs.gorvisclen_command_data.Tie as tie

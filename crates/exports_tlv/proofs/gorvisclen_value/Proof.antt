@@ -1,6 +1,5 @@
 use borrow.Author.Needs.{needs}
-use mathlib.Core.Path.{_≡_, refl, sym, ap, _∙_}
-use lib.ListN.{length}
+use mathlib.Core.Path.{refl, sym, ap, _∙_}
 use Rattle.tlv.specs.Lookup.{valueIn, said}
 use Rattle.exports_tlv.proofs.gorvisclen_value.Statement.{statement}
 use Rattle.exports_tlv.proofs.gorvisclen_value.Tie as tie

@@ -1,5 +1,4 @@
 use borrow.Author.Needs.{needs}
-use mathlib.Core.Path.{sym, ap, _∙_}
 use Rattle.reassembler.proofs.Headers.{same-class}
 use Rattle.reassembler.proofs.same_class.Statement.{statement}
 use Rattle.reassembler.proofs.same_class.Tie as tie

@@ -1,7 +1,7 @@
 use borrow.Author.Needs.{needs}
 use native.Mathlib.Omega.{arith}
-use mathlib.Core.Path.{_≡_, refl, sym, ap, _∙_}
-use Prim.Native.Nat.{ℕ, min, _+_, _≤_, _<_}
+use mathlib.Core.Path.{_≡_, sym, ap, _∙_}
+use Prim.Native.Nat.{ℕ, _<_}
 use mathlib.Core.List.{List}
 use mathlib.Core.Option.{none, some}
 use lib.ListN.{length, drop, length-drop}
@@ -10,7 +10,6 @@ use Rattle.basis.proofs.Reply.{all-is}
 use Rattle.basis.proofs.Part.{rest-is}
 use Rattle.splitter.specs.Step.{stepOf, said}
 use Rattle.splitter.specs.Pieces.{placeIn}
-use Rattle.splitter.specs.declared.step.Split.{Split}
 use Rattle.splitter.specs.declared.step.ShouldSplit.{ShouldSplit}
 use Rattle.splitter.proofs.Inside.{Fewer, step-fewer, left-by}
 use Rattle.splitter.proofs.pieces.next_left.Statement.{statement}

@@ -1,5 +1,4 @@
 use borrow.Author.Needs.{needs}
-use mathlib.Core.Path.{_≡_, refl, sym, ap, _∙_}
 use Rattle.builder.proofs.Data.{too-many}
 use Rattle.splitter.specs.Pieces.{leftOf}
 use Rattle.splitter.proofs.pieces.Pieces.next.Statement.{statement}

@@ -1,8 +1,7 @@
 use borrow.Author.Needs.{needs}
-use mathlib.Core.Path.{_≡_, refl, sym, ap, _∙_}
+use mathlib.Core.Path.{sym, ap, _∙_}
 use mathlib.Core.Option.{some}
 use lib.ListN.{length}
-use Rattle.basis.specs.Reply.{is}
 use Rattle.basis.proofs.Reply.{all-is}
 use Rattle.splitter.specs.Pieces.{nextOf, said}
 use Rattle.splitter.proofs.Inside.{EndsIn, next-inside}
