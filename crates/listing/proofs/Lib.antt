@@ -1,0 +1,10 @@
+pub mod Decimal
+pub mod Writing
+pub mod Tags
+pub mod Form
+pub mod Commands
+pub mod Making
+pub mod Meeting
+pub mod Steps
+pub mod Onward
+pub mod Single
