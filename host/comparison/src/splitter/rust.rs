@@ -7,7 +7,7 @@ use opened::command::class::Class;
 use opened::command::{self, fields, left, short_only, CommandBuilder, ExpectedLen};
 
 use super::steps::Asked;
-use crate::builder::unless_it_panics;
+use crate::panics::unless_it_panics;
 
 fn number(le: ExpectedLen) -> u64 {
     match le {

@@ -1,10 +1,11 @@
-//! The class byte: every byte, every operation, `out` of every length to 13.
+//! The class byte: every byte, every operation, `out` of every length to 13; and again in any order.
 
 use gorvisclen::{CLASS_CONSTANTS, CLASS_NUMBERS, NONE};
 use original::command::class::{
     Chain, Class, Interindustry, InvalidClass, Range, SecureMessaging, NO_SM_CLA, SM_CLA, ZERO_CLA,
 };
 
+use crate::inputs::Inputs;
 use crate::lent::{demanded, left, numbers};
 use crate::tally::Tally;
 
@@ -107,31 +108,54 @@ fn refusal(_: InvalidClass) -> u8 {
     3
 }
 
-pub fn compare(tally: &mut Tally) {
+/// Every operation on a class byte, with `out` of a length.
+fn every_operation(tally: &mut Tally, cla: u8, len: usize) {
+    let lent = || numbers(len);
+    let input = || format!("class {cla:02X}, out of {len} numbers");
+    let class = Class::from_byte(cla).map_err(refusal);
+
+    let theirs = demanded(class.map(of_class), lent());
+    let ours = left(lent(), |out| gorvisclen::class(cla, out));
+    tally.compare("Class::from_byte", &NUMBERS, input, &theirs, &ours);
+
+    let theirs = demanded(class.map(|class| of_class(class.as_chained())), lent());
+    let ours = left(lent(), |out| gorvisclen::class_as_chained(cla, out));
+    tally.compare("Class::as_chained", &NUMBERS, input, &theirs, &ours);
+
+    let range = Range::from_cla(cla).map_err(refusal);
+    let theirs = demanded(range.map(|range| [of_range(range)]), lent());
+    let ours = left(lent(), |out| gorvisclen::range(cla, out));
+    tally.compare("Range::from_cla", &[], input, &theirs, &ours);
+}
+
+fn constants(tally: &mut Tally, len: usize) {
+    let constants = [ZERO_CLA, NO_SM_CLA, SM_CLA].map(|class| u64::from(class.into_inner()));
+    let theirs = demanded(Ok(constants), numbers(len));
+    let ours = left(numbers(len), gorvisclen::class_constants);
+    let input = || format!("out of {len} numbers");
+    tally.compare("the constants of class", &CONSTANTS, input, &theirs, &ours);
+}
+
+/// Any class bytes.
+pub fn random(tally: &mut Tally, inputs: &mut Inputs) {
+    for _ in 0..4 {
+        let cla = match inputs.below(16) {
+            0 => 0xFF,
+            _ => inputs.number() as u8,
+        };
+        every_operation(tally, cla, inputs.below(CLASS_NUMBERS + 3));
+    }
+    constants(tally, inputs.below(6));
+}
+
+pub fn compare(tally: &mut Tally, inputs: &mut Inputs) {
     for len in 0..=13 {
-        let lent = || numbers(len);
         for cla in 0..=255 {
-            let input = || format!("class {cla:02X}, out of {len} numbers");
-            let class = Class::from_byte(cla).map_err(refusal);
-
-            let theirs = demanded(class.map(of_class), lent());
-            let ours = left(lent(), |out| gorvisclen::class(cla, out));
-            tally.compare("Class::from_byte", &NUMBERS, input, &theirs, &ours);
-
-            let theirs = demanded(class.map(|class| of_class(class.as_chained())), lent());
-            let ours = left(lent(), |out| gorvisclen::class_as_chained(cla, out));
-            tally.compare("Class::as_chained", &NUMBERS, input, &theirs, &ours);
-
-            let range = Range::from_cla(cla).map_err(refusal);
-            let theirs = demanded(range.map(|range| [of_range(range)]), lent());
-            let ours = left(lent(), |out| gorvisclen::range(cla, out));
-            tally.compare("Range::from_cla", &[], input, &theirs, &ours);
+            every_operation(tally, cla, len);
         }
-
-        let constants = [ZERO_CLA, NO_SM_CLA, SM_CLA].map(|class| u64::from(class.into_inner()));
-        let theirs = demanded(Ok(constants), lent());
-        let ours = left(lent(), gorvisclen::class_constants);
-        let input = || format!("out of {len} numbers");
-        tally.compare("the constants of class", &CONSTANTS, input, &theirs, &ours);
+        constants(tally, len);
+    }
+    for _ in 0..5_000 {
+        random(tally, inputs);
     }
 }

@@ -2,13 +2,15 @@
 
 use std::collections::BTreeMap;
 use std::process;
+use std::sync::atomic::{AtomicU64, Ordering};
 
 use gorvisclen::{Refused, Reply};
 
 use crate::lent::Outcome;
 
-/// The program stops at this many mismatches.
+/// The program stops at this many mismatches, in all threads together.
 const MOST: u64 = 20;
+static MISMATCHES: AtomicU64 = AtomicU64::new(0);
 
 /// What stands in the name of an operation that the Rust does not have, and what it is held to instead.
 const HELD_TO: [(&str, &str); 4] = [
@@ -28,7 +30,7 @@ struct Count {
 #[derive(Default)]
 pub struct Tally {
     counts: BTreeMap<&'static str, Count>,
-    mismatches: u64,
+    calls: u64,
 }
 
 /// The number that an exported function replies.
@@ -62,6 +64,7 @@ impl Tally {
         if cases == 0 {
             return;
         }
+        self.calls += cases;
         let count = self.counts.entry(operation).or_default();
         count.cases += cases;
         *count.replies.entry(reply).or_default() += cases;
@@ -93,28 +96,50 @@ impl Tally {
         let name = number.unwrap_or(operation);
         let held_to = HELD_TO.iter().find(|(words, _)| name.contains(words));
         let theirs = held_to.map_or("rust", |(_, to)| to);
-        println!("mismatch: {name}, by a call of {operation}");
-        println!("  input: {}", input());
-        println!("  first: {}", demanded.differs(ours));
-        println!("  {theirs:5}: {demanded}");
-        println!("  ours : {ours}");
-        self.mismatches += 1;
-        if self.mismatches == MOST {
+        // Printed at once, since other threads print too.
+        println!(
+            "mismatch: {name}, by a call of {operation}\n  input: {}\n  first: {}\n  {theirs:5}: {demanded}\n  ours : {ours}",
+            input(),
+            demanded.differs(ours)
+        );
+        if MISMATCHES.fetch_add(1, Ordering::Relaxed) + 1 == MOST {
             println!("stopped after {MOST} mismatches");
-            self.finish();
+            process::exit(1);
         }
     }
 
-    /// Prints the counts and ends the program.
-    pub fn finish(&self) -> ! {
-        for (name, count) in &self.counts {
-            println!("compared {:>8}  {name}{}", count.cases, count.replies());
+    /// Adds the counts of another.
+    pub fn add(&mut self, other: Tally) {
+        self.calls += other.calls;
+        for (name, theirs) in other.counts {
+            let count = self.counts.entry(name).or_default();
+            count.cases += theirs.cases;
+            for (reply, cases) in theirs.replies {
+                *count.replies.entry(reply).or_default() += cases;
+            }
         }
-        let total: u64 = self.counts.values().map(|count| count.cases).sum();
-        println!(
-            "compared {total:>8}  in all; mismatches: {}",
-            self.mismatches
-        );
-        process::exit(if self.mismatches == 0 { 0 } else { 1 })
+    }
+
+    /// How many calls were compared.
+    pub fn calls(&self) -> u64 {
+        self.calls
+    }
+
+    /// How many of them had to be refused with a number.
+    pub fn refused(&self, number: u8) -> u64 {
+        let replies = self.counts.values().map(|count| &count.replies);
+        replies.filter_map(|replies| replies.get(&number)).sum()
+    }
+
+    /// How many mismatches there are, in all threads together.
+    pub fn mismatches(&self) -> u64 {
+        MISMATCHES.load(Ordering::Relaxed)
+    }
+
+    /// Prints the counts by operation and reply.
+    pub fn print(&self) {
+        for (name, count) in &self.counts {
+            println!("compared {:>9}  {name}{}", count.cases, count.replies());
+        }
     }
 }

@@ -17,6 +17,7 @@ use gorvisclen::{
 use self::front::{LEN, OBJECT, TAG};
 use self::lookup::Lookup;
 use self::records::{length_forms, long_record, some_paths, some_record, Record};
+pub use self::writing::random as random_writing;
 use crate::inputs::Inputs;
 use crate::tally::Tally;
 
@@ -124,20 +125,18 @@ fn every_operation(tally: &mut Tally, inputs: &mut Inputs, bytes: &[u8], paths: 
     every_front(tally, inputs, &bytes[at..]);
 }
 
-/// Nested records of every depth to 6: whole, with a byte changed, damaged, and cut.
-fn nested(tally: &mut Tally, inputs: &mut Inputs) {
-    for i in 0..14_000 {
-        let record = some_record(inputs, i % 7);
-        let paths = some_paths(inputs, &record);
-        every_operation(tally, inputs, &record.bytes, &paths);
-        let (some, others) = paths.split_at(4);
-        let changed = inputs.one_byte_off(&record.bytes);
-        every_operation(tally, inputs, &changed, some);
-        let damaged = inputs.damaged(&record.bytes);
-        every_operation(tally, inputs, &damaged, others);
-        let cut = &record.bytes[..inputs.below(record.bytes.len() + 1)];
-        every_operation(tally, inputs, cut, some);
-    }
+/// A nested record of a depth: whole, with a byte changed, damaged, and cut.
+fn nested(tally: &mut Tally, inputs: &mut Inputs, depth: usize) {
+    let record = some_record(inputs, depth);
+    let paths = some_paths(inputs, &record);
+    every_operation(tally, inputs, &record.bytes, &paths);
+    let (some, others) = paths.split_at(4);
+    let changed = inputs.one_byte_off(&record.bytes);
+    every_operation(tally, inputs, &changed, some);
+    let damaged = inputs.damaged(&record.bytes);
+    every_operation(tally, inputs, &damaged, others);
+    let cut = &record.bytes[..inputs.below(record.bytes.len() + 1)];
+    every_operation(tally, inputs, cut, some);
 }
 
 /// Records that are cut at every place, and that have each byte changed.
@@ -176,15 +175,33 @@ fn long(tally: &mut Tally, inputs: &mut Inputs) {
     }
 }
 
-/// Rows of any bytes; every second one is small, a tag of one byte or a length that may fit.
-fn random(tally: &mut Tally, inputs: &mut Inputs) {
-    for _ in 0..20_000 {
-        let most = [5, 12, 40][inputs.below(3)];
-        let n = inputs.below(most);
-        let mut bytes = inputs.bytes(n);
-        bytes.iter_mut().step_by(2).for_each(|byte| *byte %= 64);
-        let first = bytes.iter().take(1).map(|&byte| byte.into()).collect();
-        every_operation(tally, inputs, &bytes, &[Vec::new(), first]);
+/// A row of any bytes; every second one is small, a tag of one byte or a length that may fit.
+fn any_bytes(tally: &mut Tally, inputs: &mut Inputs) {
+    let most = [5, 12, 40][inputs.below(3)];
+    let n = inputs.below(most);
+    let mut bytes = inputs.bytes(n);
+    bytes.iter_mut().step_by(2).for_each(|byte| *byte %= 64);
+    let first = bytes.iter().take(1).map(|&byte| byte.into()).collect();
+    every_operation(tally, inputs, &bytes, &[Vec::new(), first]);
+}
+
+/// Tag and length of an object, or its length alone, cut at any place.
+fn cut_header(tally: &mut Tally, inputs: &mut Inputs) {
+    let tags: [&[u8]; 4] = [&[], &[0x5A], &[0x5F, 0x24], &[0xDF, 0x81, 0x01]];
+    let forms = length_forms(inputs.below(300));
+    let form = &forms[inputs.below(forms.len())];
+    let header = [tags[inputs.below(tags.len())], form].concat();
+    let at = inputs.below(header.len() + 1);
+    every_front(tally, inputs, &header[..at]);
+}
+
+/// A nested record of any depth to 6, rows of any bytes, and cut headers.
+pub fn random(tally: &mut Tally, inputs: &mut Inputs) {
+    let depth = inputs.below(7);
+    nested(tally, inputs, depth);
+    for _ in 0..4 {
+        any_bytes(tally, inputs);
+        cut_header(tally, inputs);
     }
 }
 
@@ -197,9 +214,13 @@ pub fn compare(tally: &mut Tally, inputs: &mut Inputs) {
     every_short_string(tally);
     every_length(tally, inputs);
     every_buffer(tally);
-    nested(tally, inputs);
+    for i in 0..14_000 {
+        nested(tally, inputs, i % 7);
+    }
     every_cut(tally, inputs);
     long(tally, inputs);
-    random(tally, inputs);
+    for _ in 0..20_000 {
+        any_bytes(tally, inputs);
+    }
     writing::compare(tally, inputs);
 }

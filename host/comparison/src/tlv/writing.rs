@@ -89,6 +89,7 @@ impl Object<'_> {
         written.map_err(|_| 16)?;
         let n = part.len() - rest.len();
         assert_eq!(n, DataSource::len(&self.rust()));
+        assert!(!self.rust().is_empty());
         part.copy_from_slice(&copy);
         Ok(n as u64)
     }
@@ -237,34 +238,62 @@ fn accepted() -> Vec<[u8; 3]> {
     tags
 }
 
-/// Each of them, written and then read in the standard reading, comes back with its value.
-fn read_back(tally: &mut Tally, inputs: &mut Inputs) {
-    for tag in accepted() {
-        let n = match inputs.below(64) {
-            0 => [127, 128, 255, 256][inputs.below(4)],
-            _ => inputs.below(4),
-        };
-        let (value, at) = (&inputs.bytes(n)[..], inputs.below(3));
-        let mut buffer = vec![0xEE; at + n + 6];
-        // A refusal leaves nothing to read, which is then seen.
-        let _ = gorvisclen::put_data_object(tag, value, &mut buffer, at, &mut [0]);
+/// One of them, written and then read in the standard reading, comes back with its value.
+fn read_back(tally: &mut Tally, inputs: &mut Inputs, tag: [u8; 3]) {
+    let n = match inputs.below(64) {
+        0 => [127, 128, 255, 256][inputs.below(4)],
+        _ => inputs.below(4),
+    };
+    let (value, at) = (&inputs.bytes(n)[..], inputs.below(3));
+    let mut buffer = vec![0xEE; at + n + 6];
+    // A refusal leaves nothing to read, which is then seen.
+    let _ = gorvisclen::put_data_object(tag, value, &mut buffer, at, &mut [0]);
 
-        let record = &buffer[at..];
-        let (number, tag_len) = match tag {
-            [0, 0, b3] => (u32::from(b3), 1),
-            [0, b2, b3] => (u32::from_be_bytes([0, 0, b2, b3]), 2),
-            [b1, b2, b3] => (u32::from_be_bytes([0, b1, b2, b3]), 3),
-        };
-        let place = tag_len + length_forms(n)[0].len();
-        let answer = [number.into(), place as u64, n as u64];
-        OBJECT.written(tally, READ_BACK, (STANDARD_READING, record), Ok(answer));
-        let lookup = Lookup {
-            reading: STANDARD_READING,
-            record,
-            path: &[number],
-        };
-        lookup.written(tally, READ_BACK, Ok((place, value)));
-    }
+    let record = &buffer[at..];
+    let (number, tag_len) = match tag {
+        [0, 0, b3] => (u32::from(b3), 1),
+        [0, b2, b3] => (u32::from_be_bytes([0, 0, b2, b3]), 2),
+        [b1, b2, b3] => (u32::from_be_bytes([0, b1, b2, b3]), 3),
+    };
+    let place = tag_len + length_forms(n)[0].len();
+    let answer = [number.into(), place as u64, n as u64];
+    OBJECT.written(tally, READ_BACK, (STANDARD_READING, record), Ok(answer));
+    let lookup = Lookup {
+        reading: STANDARD_READING,
+        record,
+        path: &[number],
+    };
+    lookup.written(tally, READ_BACK, Ok((place, value)));
+}
+
+/// Any object, written to buffers around its end, and to any buffer from any place; and a tag written and read back.
+pub fn random(tally: &mut Tally, inputs: &mut Inputs) {
+    let any = inputs.number().to_be_bytes();
+    let tag = match inputs.below(4) {
+        0 => TAGS[inputs.below(TAGS.len())],
+        1 => [0, 0, any[2]],
+        2 => [0, any[1], any[2]],
+        _ => [any[0], any[1], any[2]],
+    };
+    let n = match inputs.below(1_000) {
+        0 => 65_530 + inputs.below(12),
+        1..300 => 120 + inputs.below(145),
+        _ => inputs.below(20),
+    };
+    let row = inputs.row();
+    let start = inputs.below(row.len() - n + 1);
+    let value = &row[start..start + n];
+    let object = Object { tag, value };
+    object.around_the_end(tally, inputs.below(9));
+    let (buffer_len, at) = (inputs.below(n + 12), inputs.below(12));
+    object.write(tally, buffer_len, at, inputs.below(3));
+    let [b1, b2, b3] = [any[3] | 0x1F, any[4], any[5]];
+    let tag = match b2 {
+        0x1F..=0x7F => [0, b1, b2],
+        0x81..=0xFF => [b1, b2, b3 & 0x7F],
+        _ => [0, 0, b1 & 0xFE],
+    };
+    read_back(tally, inputs, tag);
 }
 
 pub fn compare(tally: &mut Tally, inputs: &mut Inputs) {
@@ -272,5 +301,7 @@ pub fn compare(tally: &mut Tally, inputs: &mut Inputs) {
     every_boundary(tally, inputs);
     every_place_at_a_boundary(tally, inputs);
     every_tag(tally, inputs);
-    read_back(tally, inputs);
+    for tag in accepted() {
+        read_back(tally, inputs, tag);
+    }
 }

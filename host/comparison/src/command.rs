@@ -35,8 +35,8 @@ fn rooms_around(n: usize) -> [&'static Room; 2] {
     [&ROOMS[at], &ROOMS[at.saturating_sub(1)]]
 }
 
-/// Every operation once or more, with buffers and rooms of lengths around those that it needs.
-fn every_operation(tally: &mut Tally, inputs: &mut Inputs, apdu: &[u8]) {
+/// Parsed, its data, and owned, with buffers and rooms of lengths around those that each needs.
+fn every_reading(tally: &mut Tally, inputs: &mut Inputs, apdu: &[u8]) {
     for reading in [CRATE_READING, 1 + inputs.below(255) as u8] {
         let asked = Asked { reading, apdu };
         asked.parse(tally, COMMAND_NUMBERS + inputs.below(3), true);
@@ -59,6 +59,11 @@ fn every_operation(tally: &mut Tally, inputs: &mut Inputs, apdu: &[u8]) {
     for room_len in [n, n.saturating_sub(1), n + inputs.below(20)] {
         asked.own_by_table(tally, room_len, OWNED_NUMBERS);
     }
+}
+
+/// Every operation once or more.
+fn every_operation(tally: &mut Tally, inputs: &mut Inputs, apdu: &[u8]) {
+    every_reading(tally, inputs, apdu);
     every_extension(tally, inputs, apdu);
 }
 
@@ -271,54 +276,74 @@ fn every_room(tally: &mut Tally, inputs: &mut Inputs) {
 }
 
 /// Extension after extension, up to the room's end and past it; pieces that are refused lie between.
+fn chain(tally: &mut Tally, inputs: &mut Inputs, room: &Room) {
+    let start = match inputs.below(3) {
+        0 => inputs.below(room.len + 1),
+        _ => 0,
+    };
+    let mut free = room.len - start;
+    let mut apdus = Vec::new();
+    for _ in 0..12 {
+        let n = match inputs.below(8) {
+            0 => 0,
+            1 => free,
+            2 => free + 1,
+            3 => free.saturating_sub(1),
+            _ => inputs.below(free / 3 + 2),
+        };
+        let n = n.min(65_535);
+        let apdu = some_command(inputs, n);
+        if inputs.below(6) == 0 {
+            apdus.push(inputs.damaged(&apdu));
+        }
+        apdus.push(apdu);
+        free -= if n <= free { n } else { 0 };
+    }
+    let piece = |apdu| Piece {
+        apdu,
+        out_len: OWNED_NUMBERS - usize::from(inputs.below(16) == 0),
+    };
+    let pieces: Vec<_> = apdus.iter().map(|apdu| &apdu[..]).map(piece).collect();
+    (room.extended)(tally, start, &pieces);
+}
+
+/// Extensions in every room.
 fn every_chain(tally: &mut Tally, inputs: &mut Inputs) {
     for room in &ROOMS {
         for _ in 0..if room.len < 1_000 { 400 } else { 12 } {
-            let start = match inputs.below(3) {
-                0 => inputs.below(room.len + 1),
-                _ => 0,
-            };
-            let mut free = room.len - start;
-            let mut apdus = Vec::new();
-            for _ in 0..12 {
-                let n = match inputs.below(8) {
-                    0 => 0,
-                    1 => free,
-                    2 => free + 1,
-                    3 => free.saturating_sub(1),
-                    _ => inputs.below(free / 3 + 2),
-                };
-                let n = n.min(65_535);
-                let apdu = some_command(inputs, n);
-                if inputs.below(6) == 0 {
-                    apdus.push(inputs.damaged(&apdu));
-                }
-                apdus.push(apdu);
-                free -= if n <= free { n } else { 0 };
-            }
-            let piece = |apdu| Piece {
-                apdu,
-                out_len: OWNED_NUMBERS - usize::from(inputs.below(16) == 0),
-            };
-            let pieces: Vec<_> = apdus.iter().map(|apdu| &apdu[..]).map(piece).collect();
-            (room.extended)(tally, start, &pieces);
+            chain(tally, inputs, room);
         }
     }
 }
 
-/// Commands of any data, whole and damaged, and rows of any bytes.
-fn random_and_damaged(tally: &mut Tally, inputs: &mut Inputs) {
-    for _ in 0..20_000 {
-        let most = [2, 20, 300, 700][inputs.below(4)];
-        let n = inputs.below(most);
-        let apdu = some_command(inputs, n);
-        every_operation(tally, inputs, &apdu);
-        let damaged = inputs.damaged(&apdu);
-        every_operation(tally, inputs, &damaged);
-        let n = inputs.below(24);
-        let any = inputs.bytes(n);
-        every_operation(tally, inputs, &any);
+/// A command of any data, the same damaged, and a row of any bytes.
+fn some_apdus(inputs: &mut Inputs) -> [Vec<u8>; 3] {
+    let most = [2, 20, 300, 700][inputs.below(4)];
+    let n = inputs.below(most);
+    let apdu = some_command(inputs, n);
+    let damaged = inputs.damaged(&apdu);
+    let n = inputs.below(24);
+    [apdu, damaged, inputs.bytes(n)]
+}
+
+/// Any commands, parsed and owned.
+pub fn random(tally: &mut Tally, inputs: &mut Inputs) {
+    for apdu in some_apdus(inputs) {
+        every_reading(tally, inputs, &apdu);
     }
+}
+
+/// Extensions by any commands, and one after the other in some room, mostly a short one.
+pub fn random_chain(tally: &mut Tally, inputs: &mut Inputs) {
+    for apdu in some_apdus(inputs) {
+        every_extension(tally, inputs, &apdu);
+    }
+    let rooms = match inputs.below(100) {
+        0 => &ROOMS[..],
+        _ => &ROOMS[..SHORT_ROOMS],
+    };
+    let room = &rooms[inputs.below(rooms.len())];
+    chain(tally, inputs, room);
 }
 
 pub fn compare(tally: &mut Tally, inputs: &mut Inputs) {
@@ -330,5 +355,9 @@ pub fn compare(tally: &mut Tally, inputs: &mut Inputs) {
     every_buffer(tally);
     every_room(tally, inputs);
     every_chain(tally, inputs);
-    random_and_damaged(tally, inputs);
+    for _ in 0..20_000 {
+        for apdu in some_apdus(inputs) {
+            every_operation(tally, inputs, &apdu);
+        }
+    }
 }

@@ -11,7 +11,6 @@ use std::hint::black_box;
 use gorvisclen::{EXPECTED_MAX, EXTENDED_FORCED, EXTENDED_SUPPORTED, SHORT_ONLY};
 
 use self::operations::Asked;
-pub use self::rust::unless_it_panics;
 use crate::inputs::Inputs;
 use crate::tally::Tally;
 
@@ -342,24 +341,30 @@ fn every_place_at_a_boundary(tally: &mut Tally, inputs: &mut Inputs) {
 }
 
 /// Data that are too long: 13, before 16 and behind 3; and each refusal of a command read beside it.
-fn too_long(tally: &mut Tally, inputs: &mut Inputs) {
+fn too_long(tally: &mut Tally, inputs: &mut Inputs, header: [u8; 4], mode: u8, data: &[u8]) {
+    let n = data.len();
+    let le = EXPECTED[inputs.below(EXPECTED.len())];
+    let asked = Asked::new(header, le, mode, data);
+    for len in 0..=2 {
+        asked.required_len(tally, len, true);
+        asked.force_extended(tally, len, true);
+    }
+    for (buffer_len, at) in [(n + 20, 3), (0, 0), (0, 1), (n, 0), (8, usize::MAX)] {
+        asked.write(tally, buffer_len, at, inputs.below(3));
+    }
+    let own = model::command(header, 0, mode, &data[..n % 65_536]);
+    for apdu in REFUSED.into_iter().chain([&own[..]]) {
+        asked.equals(tally, apdu, inputs.below(3));
+    }
+}
+
+/// Lengths that are too long, in every mode.
+fn every_too_long(tally: &mut Tally, inputs: &mut Inputs) {
     let row = inputs.bytes(131_072);
     for n in TOO_LONG {
         for mode in MODES {
             for header in [HEADERS[0], HEADERS[5]] {
-                let le = EXPECTED[inputs.below(EXPECTED.len())];
-                let asked = Asked::new(header, le, mode, &row[..n]);
-                for len in 0..=2 {
-                    asked.required_len(tally, len, true);
-                    asked.force_extended(tally, len, true);
-                }
-                for (buffer_len, at) in [(n + 20, 3), (0, 0), (0, 1), (n, 0), (8, usize::MAX)] {
-                    asked.write(tally, buffer_len, at, inputs.below(3));
-                }
-                let own = model::command(header, 0, mode, &row[..n % 65_536]);
-                for apdu in REFUSED.into_iter().chain([&own[..]]) {
-                    asked.equals(tally, apdu, inputs.below(3));
-                }
+                too_long(tally, inputs, header, mode, &row[..n]);
             }
         }
     }
@@ -378,18 +383,25 @@ fn every_refused(tally: &mut Tally) {
     }
 }
 
-/// Any header, mode, expected length and data.
-fn random(tally: &mut Tally, inputs: &mut Inputs) {
-    for i in 0..15_000 {
-        let most = match i % 1_000 {
-            0 => 65_536,
-            _ => [2, 20, 300, 700][inputs.below(4)],
-        };
-        let n = inputs.below(most);
-        let data = &inputs.bytes(n);
-        let (header, le) = (some_header(inputs), some_expected(inputs));
-        let asked = Asked::new(header, le, some_mode(inputs), data);
-        every_operation(tally, inputs, &asked);
+/// Any header, mode, expected length and data; at times, data that are too long.
+pub fn random(tally: &mut Tally, inputs: &mut Inputs) {
+    if inputs.below(1_000) == 0 {
+        let (row, header) = (inputs.row(), some_header(inputs));
+        let (n, mode) = (65_536 + inputs.below(row.len() - 65_535), some_mode(inputs));
+        too_long(tally, inputs, header, mode, &row[..n]);
+    }
+    let most = match inputs.below(1_000) {
+        0 => 65_536,
+        _ => [2, 20, 300, 700][inputs.below(4)],
+    };
+    let n = inputs.below(most);
+    let data = &inputs.bytes(n);
+    let (header, le) = (some_header(inputs), some_expected(inputs));
+    let asked = Asked::new(header, le, some_mode(inputs), data);
+    every_operation(tally, inputs, &asked);
+    // Buffers that end in the header, or in Lc.
+    for _ in 0..2 {
+        asked.write(tally, inputs.below(9), inputs.below(3), 1);
     }
 }
 
@@ -405,7 +417,9 @@ pub fn compare(tally: &mut Tally, inputs: &mut Inputs) {
     every_two_bytes(tally);
     every_place(tally, inputs);
     every_place_at_a_boundary(tally, inputs);
-    too_long(tally, inputs);
+    every_too_long(tally, inputs);
     every_refused(tally);
-    random(tally, inputs);
+    for _ in 0..15_000 {
+        random(tally, inputs);
+    }
 }

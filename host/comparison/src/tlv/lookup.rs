@@ -18,12 +18,24 @@ pub struct Lookup<'a> {
     pub path: &'a [u32],
 }
 
+/// The Rust's tag of a number; none where it is above all of them. Each way to make it has to give the same.
+fn tag(number: &u32) -> Option<Tag> {
+    let [0, b1, b2, b3] = number.to_be_bytes() else {
+        return None;
+    };
+    let tag = Tag::from([b1, b2, b3]);
+    let two = u16::from_be_bytes([b2, b3]);
+    let same = match [b1, b2] {
+        [0, 0] => [Tag::from(b3), Tag::from([b3]), Tag::from_u8(b3)] == [tag; 3],
+        [0, _] => [Tag::from(two), Tag::from([b2, b3]), Tag::from_u16(two)] == [tag; 3],
+        _ => Tag::from_3([b1, b2, b3]) == tag,
+    };
+    assert!(same, "the Rust's tags part: {number:X}");
+    Some(tag)
+}
+
 /// The Rust's tags of a path; none where a number is above all of them.
 fn tags(path: &[u32]) -> Option<Vec<Tag>> {
-    let tag = |number: &u32| match number.to_be_bytes() {
-        [0, b1, b2, b3] => Some(Tag::from([b1, b2, b3])),
-        _ => None,
-    };
     path.iter().map(tag).collect()
 }
 

@@ -150,11 +150,17 @@ fn extended<const S: usize>(tally: &mut Tally, len: usize, pieces: &[Piece]) {
     held.data_mut().extend_from_slice(front).unwrap();
     for &Piece { apdu, out_len } in pieces {
         let (before, len) = (room.clone(), held.data().len());
-
+        // The same by an owned command, where the rooms are short.
+        let by_owned = Command::<600>::try_from(apdu).ok().filter(|_| S <= 600);
+        let mut other = by_owned.is_some().then(|| held.clone());
         let mut out = numbers(out_len);
         let view = CommandView::try_from(apdu).map_err(refusal);
         let reply = or_short(view, out_len >= OWNED_NUMBERS).and_then(|view| {
             let done = held.extend_from_command_view(view);
+            if let (Some(other), Some(owned)) = (&mut other, &by_owned) {
+                let same = other.extend_from_command(owned) == done && *other == held;
+                assert!(same, "the Rust's extensions part: {}", hex(apdu));
+            }
             let now = of_command(&held);
             out.part()[..OWNED_NUMBERS].copy_from_slice(&now.numbers);
             room.part()[..now.data.len()].copy_from_slice(&now.data);

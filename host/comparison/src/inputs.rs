@@ -1,18 +1,39 @@
 //! The inputs that are not counted through: a small deterministic generator (splitmix64).
 
-pub struct Inputs(u64);
+use std::rc::Rc;
+
+pub struct Inputs {
+    state: u64,
+    row: Option<Rc<[u8]>>,
+}
 
 impl Inputs {
-    pub fn new(seed: u64) -> Self {
-        Inputs(seed)
+    /// Those of the job with a number, in a run with a seed.
+    pub fn new(seed: u64, job: u64) -> Self {
+        let mut of_seed = Inputs {
+            state: seed,
+            row: None,
+        };
+        let state = of_seed.number().wrapping_add(job);
+        let mut of_job = Inputs { state, row: None };
+        of_job.state = of_job.number();
+        of_job
     }
 
     pub fn number(&mut self) -> u64 {
-        self.0 = self.0.wrapping_add(0x9E37_79B9_7F4A_7C15);
-        let mut z = self.0;
+        self.state = self.state.wrapping_add(0x9E37_79B9_7F4A_7C15);
+        let mut z = self.state;
         z = (z ^ (z >> 30)).wrapping_mul(0xBF58_476D_1CE4_E5B9);
         z = (z ^ (z >> 27)).wrapping_mul(0x94D0_49BB_1331_11EB);
         z ^ (z >> 31)
+    }
+
+    /// A long row of bytes, the same at every call: 65,546, which is more than any data may have.
+    pub fn row(&mut self) -> Rc<[u8]> {
+        if self.row.is_none() {
+            self.row = Some(self.bytes(65_546).into());
+        }
+        self.row.clone().unwrap()
     }
 
     /// A number below `end`, which is not 0.

@@ -2,11 +2,10 @@
 //! first piece of a chain, and the whole of it where a long buffer is named; but none has more than 255 bytes, and none expects
 //! Max. Such are made by `opened`, of the same source.
 
-use std::panic::{self, AssertUnwindSafe};
-
 use gorvisclen::{EXTENDED_SUPPORTED, SHORT_ONLY};
 
 use super::operations::Asked;
+use crate::panics::unless_it_panics;
 
 /// A builder of `original` or of `opened`.
 pub trait Builder {
@@ -49,16 +48,9 @@ macro_rules! builder_of {
 }
 
 builder_of!(original);
+// The counted copy of the Rust is both.
+#[cfg(not(feature = "counted"))]
 builder_of!(opened);
-
-/// What a call gives; nothing where it panics, which is not printed.
-pub fn unless_it_panics<T>(call: impl FnOnce() -> T) -> Option<T> {
-    let hook = panic::take_hook();
-    panic::set_hook(Box::new(|_| {}));
-    let done = panic::catch_unwind(AssertUnwindSafe(call));
-    panic::set_hook(hook);
-    done.ok()
-}
 
 /// The builder; 3 where the Rust has no such class, 13 where it panics.
 pub fn made<'a>(asked: &Asked<'a>) -> Result<Box<dyn Builder + 'a>, u8> {

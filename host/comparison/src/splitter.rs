@@ -148,22 +148,21 @@ fn every_class_and_mode(tally: &mut Tally, inputs: &mut Inputs) {
     }
 }
 
-fn random_steps(tally: &mut Tally, inputs: &mut Inputs) {
-    let row = inputs.bytes(65_546);
-    for _ in 0..150_000 {
-        let n = some_len(inputs).min(row.len());
-        let mode = match inputs.below(4) {
-            3 => inputs.number() as u8,
-            mode => mode as u8,
-        };
-        let (header, le) = (some_header(inputs), some_expected(inputs));
-        let start = inputs.below(row.len() - n + 1);
-        let asked = steps::Asked::new(header, le, mode, &row[start..start + n]);
-        let (available, len) = (some_len(inputs), inputs.below(SPLIT_NUMBERS + 2));
-        asked.step(tally, available, len, n < 700);
-        if available > 12 && n < 700 {
-            asked.parts(tally, available);
-        }
+/// Any step.
+pub fn random_step(tally: &mut Tally, inputs: &mut Inputs) {
+    let row = inputs.row();
+    let n = some_len(inputs).min(row.len());
+    let mode = match inputs.below(4) {
+        3 => inputs.number() as u8,
+        mode => mode as u8,
+    };
+    let (header, le) = (some_header(inputs), some_expected(inputs));
+    let start = inputs.below(row.len() - n + 1);
+    let asked = steps::Asked::new(header, le, mode, &row[start..start + n]);
+    let (available, len) = (some_len(inputs), inputs.below(SPLIT_NUMBERS + 2));
+    asked.step(tally, available, len, n < 700);
+    if available > 12 && n < 700 {
+        asked.parts(tally, available);
     }
 }
 
@@ -251,36 +250,58 @@ fn not_made(tally: &mut Tally, inputs: &mut Inputs) {
     }
 }
 
-/// Single pieces of chains in any state, into any buffer.
-fn random_pieces(tally: &mut Tally, inputs: &mut Inputs) {
-    let row = inputs.bytes(65_546);
-    for _ in 0..150_000 {
-        let n = some_len(inputs).min(row.len());
-        let le = some_expected(inputs) as u16;
-        let available = some_len(inputs);
-        let mut asked = chains::Asked::new(some_header(inputs), &row[..n], le, available);
-        asked.chain.place = match inputs.below(8) {
-            0 => n + inputs.below(3),
-            1 => [usize::MAX, 1 << 32, 65_536, 70_000][inputs.below(4)],
-            2..=3 => n.saturating_sub(inputs.below(300)),
-            _ => inputs.below(n + 1),
-        };
-        asked.chain.done = inputs.below(16) == 0;
-        let buffer_len = match inputs.below(4) {
-            0 => inputs.below(20),
-            _ => inputs.below(300),
-        };
-        let at = match inputs.below(16) {
-            0 => buffer_len + inputs.below(3),
-            1 => usize::MAX - inputs.below(12),
-            _ => inputs.below(8),
-        };
-        let len = match inputs.below(8) {
-            0 => inputs.below(5),
-            _ => 5 + inputs.below(2),
-        };
-        asked.next_at(tally, (buffer_len, at, len));
+/// A single piece of a chain in any state, into any buffer.
+fn random_piece(tally: &mut Tally, inputs: &mut Inputs) {
+    let row = inputs.row();
+    let n = some_len(inputs).min(row.len());
+    let le = some_expected(inputs) as u16;
+    let available = some_len(inputs);
+    let mut asked = chains::Asked::new(some_header(inputs), &row[..n], le, available);
+    asked.chain.place = match inputs.below(8) {
+        0 => n + inputs.below(3),
+        1 => [usize::MAX, 1 << 32, 65_536, 70_000][inputs.below(4)],
+        2..=3 => n.saturating_sub(inputs.below(300)),
+        _ => inputs.below(n + 1),
+    };
+    asked.chain.done = inputs.below(16) == 0;
+    let buffer_len = match inputs.below(4) {
+        0 => inputs.below(20),
+        _ => inputs.below(300),
+    };
+    let at = match inputs.below(16) {
+        0 => buffer_len + inputs.below(3),
+        1 => usize::MAX - inputs.below(12),
+        _ => inputs.below(8),
+    };
+    let len = match inputs.below(8) {
+        0 => inputs.below(5),
+        _ => 5 + inputs.below(2),
+    };
+    asked.next_at(tally, (buffer_len, at, len));
+}
+
+/// A whole chain of any data, and single pieces of others.
+pub fn random_chain(tally: &mut Tally, inputs: &mut Inputs) {
+    for _ in 0..20 {
+        random_piece(tally, inputs);
     }
+    let row = inputs.row();
+    let available = match inputs.below(4) {
+        0 => some_len(inputs),
+        1 => inputs.below(30),
+        _ => 10 + inputs.below(300),
+    };
+    // Not too many pieces; of data that are too long, none.
+    let n = match inputs.below(64) {
+        0 => 65_536 + inputs.below(row.len() - 65_535),
+        1..=8 => some_len(inputs).min(available.saturating_mul(40)),
+        _ => inputs.below(2_000),
+    };
+    let n = n.min(row.len());
+    let le = some_expected(inputs) as u16;
+    let asked = chains::Asked::new(some_header(inputs), &row[..n], le, available);
+    let around = (inputs.below(3), inputs.below(3));
+    asked.cut(tally, around, 1 + inputs.below(40));
 }
 
 pub fn compare(tally: &mut Tally, inputs: &mut Inputs) {
@@ -289,10 +310,14 @@ pub fn compare(tally: &mut Tally, inputs: &mut Inputs) {
     every_boundary(tally, inputs);
     every_small_step(tally, inputs);
     every_class_and_mode(tally, inputs);
-    random_steps(tally, inputs);
+    for _ in 0..150_000 {
+        random_step(tally, inputs);
+    }
     every_expected_length(tally, inputs);
     most_pieces(tally, inputs);
     every_buffer(tally, inputs);
     not_made(tally, inputs);
-    random_pieces(tally, inputs);
+    for _ in 0..150_000 {
+        random_piece(tally, inputs);
+    }
 }

@@ -5,6 +5,7 @@ use original::aid::{Aid, Category, FromSliceError};
 
 use crate::inputs::Inputs;
 use crate::lent::{bytes, demanded, hex, left, numbers, Outcome};
+use crate::panics::unless_it_panics;
 use crate::tally::Tally;
 
 /// What each number of an AID is.
@@ -48,6 +49,7 @@ fn of_part(part: Option<&[u8]>) -> u64 {
 }
 
 fn of_aid(aid: Aid) -> [u64; AID_NUMBERS] {
+    assert_eq!(*aid, *aid.as_bytes());
     [
         aid.as_bytes().len() as u64,
         aid.truncated().len() as u64,
@@ -87,6 +89,19 @@ struct Case<'a> {
 impl Case<'_> {
     fn original(&self) -> Result<Aid, u8> {
         Aid::try_new_truncatable(self.name, self.truncated_len).map_err(refusal)
+    }
+
+    /// Ends the program where the Rust's functions that panic make another AID, or panic where the others make one.
+    fn by_those_that_panic(&self) {
+        let Case {
+            name,
+            truncated_len,
+        } = *self;
+        let one = unless_it_panics(|| Aid::new_truncatable(name, truncated_len));
+        let same = one == Aid::try_new_truncatable(name, truncated_len).ok();
+        let whole = unless_it_panics(|| Aid::new(name));
+        let same = same && whole == Aid::try_new(name).ok();
+        assert!(same, "the Rust's functions part: {}", self.shown());
     }
 
     fn shown(&self) -> String {
@@ -157,6 +172,7 @@ impl Case<'_> {
 
     /// Every operation once or more, with buffers of lengths around those that it needs.
     fn every_operation(&self, tally: &mut Tally, inputs: &mut Inputs) {
+        self.by_those_that_panic();
         self.make(tally, AID_NUMBERS + inputs.below(3));
         self.make(tally, inputs.below(AID_NUMBERS));
         self.make_whole(tally, inputs.below(AID_NUMBERS + 3));
@@ -253,25 +269,45 @@ fn every_room(tally: &mut Tally, inputs: &mut Inputs) {
     }
 }
 
-/// Damaged copies of a registered AID.
+/// A damaged copy of a registered AID.
 fn damaged(tally: &mut Tally, inputs: &mut Inputs) {
     let registered = [
         0xA0, 0x00, 0x00, 0x03, 0x08, 0x00, 0x00, 0x10, 0x00, 0x01, 0x00,
     ];
-    for _ in 0..5_000 {
-        let name = inputs.damaged(&registered);
-        let case = Case {
-            name: &name,
-            truncated_len: inputs.below(name.len() + 2),
-        };
-        case.every_operation(tally, inputs);
-        case.matches(tally, &registered, 1);
+    let name = inputs.damaged(&registered);
+    let case = Case {
+        name: &name,
+        truncated_len: inputs.below(name.len() + 2),
+    };
+    case.every_operation(tally, inputs);
+    case.matches(tally, &registered, 1);
+}
+
+/// Any AID, and a damaged copy of a registered one.
+pub fn random(tally: &mut Tally, inputs: &mut Inputs) {
+    let first = match inputs.below(3) {
+        0 => [0xA0, 0xD0, 0xE0, 0xF0][inputs.below(4)] | inputs.below(16) as u8,
+        _ => inputs.number() as u8,
+    };
+    let len = inputs.below(18);
+    let name = name_of(inputs, first, len);
+    let truncated_len = match inputs.below(8) {
+        0 => inputs.number() as usize >> inputs.below(64),
+        _ => inputs.below(len + 2),
+    };
+    Case {
+        name: &name,
+        truncated_len,
     }
+    .every_operation(tally, inputs);
+    damaged(tally, inputs);
 }
 
 pub fn compare(tally: &mut Tally, inputs: &mut Inputs) {
     every_first_byte(tally, inputs);
     far_above(tally, inputs);
     every_room(tally, inputs);
-    damaged(tally, inputs);
+    for _ in 0..5_000 {
+        damaged(tally, inputs);
+    }
 }

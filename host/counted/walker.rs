@@ -1,0 +1,339 @@
+//! The walk over a source that puts the counters in.
+
+use std::collections::BTreeSet;
+
+use crate::lexer::Token;
+
+/// A row of the table of branches, printed as the program has it.
+#[derive(Debug)]
+pub struct Branch {
+    #[allow(dead_code)]
+    file: String,
+    #[allow(dead_code)]
+    line: u32,
+    /// The head of the `impl`, if any, and the function.
+    #[allow(dead_code)]
+    function: String,
+    /// What it is, in the words of the source.
+    #[allow(dead_code)]
+    text: String,
+}
+
+/// What is put behind the name of a function that stands for the constants.
+const FOR_CONSTANTS: &str = "_for_constants";
+
+struct Walker<'a> {
+    file: &'a str,
+    tokens: &'a [Token<'a>],
+    /// Functions that are `const`.
+    constant: BTreeSet<&'a str>,
+    out: String,
+    branches: &'a mut Vec<Branch>,
+    owner: String,
+    function: String,
+}
+
+/// The copy of a source with its counters. A row for each is added to `branches`, and counts by its place there.
+pub fn counted(file: &str, tokens: &[Token], branches: &mut Vec<Branch>) -> String {
+    let named = tokens
+        .windows(3)
+        .filter(|w| [w[0].text, w[1].text] == ["const", "fn"]);
+    let mut walker = Walker {
+        file,
+        tokens,
+        constant: named.map(|w| w[2].text).collect(),
+        out: String::new(),
+        branches,
+        owner: String::new(),
+        function: String::new(),
+    };
+    walker.walk(0, tokens.len());
+    walker
+        .out
+        .push_str("\n#[allow(unused_imports)]\nuse crate::Early as _;\n");
+    walker.out
+}
+
+impl<'a> Walker<'a> {
+    fn at(&self, i: usize) -> &'a str {
+        self.tokens.get(i).map_or("", |token| token.text)
+    }
+
+    /// Behind the bracket that closes the one at `i`.
+    fn behind(&self, i: usize) -> usize {
+        let mut depth = 0;
+        for j in i..self.tokens.len() {
+            match self.at(j) {
+                "(" | "[" | "{" => depth += 1,
+                ")" | "]" | "}" => depth -= 1,
+                _ => (),
+            }
+            if depth == 0 {
+                return j + 1;
+            }
+        }
+        panic!("{}: a bracket without end", self.file)
+    }
+
+    /// The first of these tokens from `i` on, outside of brackets, or else the bracket that ends what is around.
+    fn find(&self, mut i: usize, wanted: &[&str]) -> usize {
+        loop {
+            match self.at(i) {
+                text if wanted.contains(&text) => return i,
+                "(" | "[" | "{" => i = self.behind(i),
+                ")" | "]" | "}" => return i,
+                "" => panic!("{}: no {wanted:?}", self.file),
+                _ => i += 1,
+            }
+        }
+    }
+
+    /// The text of some tokens on one line.
+    fn text(&self, from: usize, to: usize) -> String {
+        let mut text = String::new();
+        for (i, token) in self.tokens[from..to].iter().enumerate() {
+            if i > 0 && !token.before.is_empty() {
+                text.push(' ');
+            }
+            text.push_str(token.text);
+        }
+        text
+    }
+
+    /// The text of the line on which a token is.
+    fn line(&self, i: usize) -> String {
+        let line = self.tokens[i].line;
+        let on = |j: &usize| self.tokens[*j].line == line;
+        let from = (0..i).rev().take_while(on).last().unwrap_or(i);
+        let to = (i..self.tokens.len()).take_while(on).last().unwrap() + 1;
+        self.text(from, to)
+    }
+
+    /// A new branch, at the token `i`; its place in the table.
+    fn branch(&mut self, i: usize, text: String) -> usize {
+        self.branches.push(Branch {
+            file: self.file.to_string(),
+            line: self.tokens[i].line,
+            function: format!("{}{}", self.owner, self.function),
+            text,
+        });
+        self.branches.len() - 1
+    }
+
+    fn hit(&mut self, i: usize, text: String) {
+        let n = self.branch(i, text);
+        self.out.push_str(&format!(" crate::hit({n}); "));
+    }
+
+    /// Writes tokens as they are.
+    fn copy(&mut self, from: usize, to: usize) {
+        for token in &self.tokens[from..to] {
+            // Comments about the whole file could stand only at the front of it.
+            self.out.push_str(&token.before.replace("//!", "//"));
+            self.out.push_str(token.text);
+        }
+    }
+
+    /// The same, with the functions that stand for the constants called instead.
+    fn copy_constant(&mut self, from: usize, to: usize) {
+        for i in from..to {
+            self.copy(i, i + 1);
+            if self.constant.contains(self.at(i)) && self.at(i + 1) == "(" {
+                self.out.push_str(FOR_CONSTANTS);
+            }
+        }
+    }
+
+    /// Writes the block at `i`, counted; behind it.
+    fn block(&mut self, i: usize, text: String) -> usize {
+        assert_eq!(
+            self.at(i),
+            "{",
+            "{}: line {}",
+            self.file,
+            self.tokens[i].line
+        );
+        let end = self.behind(i);
+        self.copy(i, i + 1);
+        self.hit(i, text);
+        self.walk(i + 1, end);
+        end
+    }
+
+    /// Writes an expression that ends before `end`, counted, as a block.
+    fn expression(&mut self, i: usize, end: usize, text: String) -> usize {
+        self.out.push_str(" {");
+        self.hit(i, text);
+        self.walk(i, end);
+        self.out.push_str(" }");
+        end
+    }
+
+    fn walk(&mut self, mut i: usize, end: usize) {
+        while i < end {
+            i = self.step(i);
+        }
+    }
+
+    /// Writes what starts at `i`; behind it.
+    fn step(&mut self, i: usize) -> usize {
+        let previous = if i == 0 { "" } else { self.at(i - 1) };
+        match (self.at(i), self.at(i + 1)) {
+            ("#", "[") => self.attribute(i),
+            (word, "!") if word.starts_with(|c: char| c.is_alphabetic()) => {
+                let end = self.behind(i + 2);
+                self.copy(i, end);
+                end
+            }
+            ("const", "fn") => self.constant_function(i, previous == "pub"),
+            ("const", _) if previous != "<" && previous != "," => {
+                let end = self.find(i, &[";"]);
+                self.copy_constant(i, end);
+                end
+            }
+            ("impl", _) => self.implementation(i),
+            ("fn", name) if name != "(" => self.function(i),
+            ("if", _) => self.condition(i),
+            ("else", "{") => {
+                self.copy(i, i + 1);
+                self.block(i + 1, format!("else: {}", self.line(i)))
+            }
+            ("match", _) => self.arms(i),
+            ("for" | "while" | "loop", _) => {
+                let body = self.find(i + 1, &["{"]);
+                self.copy(i, i + 1);
+                self.walk(i + 1, body);
+                self.block(body, self.text(i, body))
+            }
+            ("|" | "||", _) if matches!(previous, "(" | "," | "=" | "=>" | "move" | "{" | ";") => {
+                self.closure(i)
+            }
+            ("?", _) if previous != "+" && previous != ":" => {
+                let n = self.branch(i, format!("? leaves: {}", self.line(i)));
+                self.out.push_str(&format!(".early({n})?"));
+                i + 1
+            }
+            _ => {
+                self.copy(i, i + 1);
+                i + 1
+            }
+        }
+    }
+
+    /// An attribute; what is there on a condition (tests, features that are not here) is left as it is.
+    fn attribute(&mut self, i: usize) -> usize {
+        let mut end = self.behind(i + 1);
+        if self.at(i + 2) == "cfg" {
+            end = self.find(end, &[";", "{"]);
+            end = if self.at(end) == "{" {
+                self.behind(end)
+            } else {
+                end + 1
+            };
+        }
+        self.copy(i, end);
+        end
+    }
+
+    fn implementation(&mut self, i: usize) -> usize {
+        let body = self.find(i, &["{"]);
+        let end = self.behind(body);
+        self.owner = format!("{}: ", self.text(i, body));
+        self.copy(i, body + 1);
+        self.walk(body + 1, end);
+        self.owner.clear();
+        end
+    }
+
+    /// As it is, under another name; then without its `const`, counted.
+    fn constant_function(&mut self, i: usize, public: bool) -> usize {
+        let end = self.behind(self.find(i, &["{"]));
+        self.copy(i, i + 3);
+        self.out.push_str(FOR_CONSTANTS);
+        self.copy_constant(i + 3, end);
+        self.out
+            .push_str(if public { "\n    pub " } else { "\n    " });
+        self.function(i + 1)
+    }
+
+    fn function(&mut self, i: usize) -> usize {
+        let body = self.find(i, &["{", ";"]);
+        self.copy(i, body);
+        if self.at(body) == ";" {
+            return body;
+        }
+        let name = self.at(i + 1);
+        let outer = std::mem::replace(&mut self.function, name.to_string());
+        let end = self.block(body, format!("fn {name}"));
+        self.function = outer;
+        end
+    }
+
+    fn condition(&mut self, i: usize) -> usize {
+        let body = self.find(i + 1, &["{"]);
+        let text = self.text(i, body);
+        self.copy(i, i + 1);
+        self.walk(i + 1, body);
+        let end = self.block(body, text.clone());
+        match (self.at(end), self.at(end + 1)) {
+            ("else", "if") => {
+                self.copy(end, end + 1);
+                end + 1
+            }
+            ("else", _) => {
+                self.copy(end, end + 1);
+                self.block(end + 1, format!("else of {text}"))
+            }
+            _ => {
+                self.out.push_str(" else {");
+                self.hit(i, format!("not entered: {text}"));
+                self.out.push('}');
+                end
+            }
+        }
+    }
+
+    fn arms(&mut self, i: usize) -> usize {
+        let body = self.find(i + 1, &["{"]);
+        let end = self.behind(body);
+        let head = self.text(i, body);
+        self.copy(i, i + 1);
+        self.walk(i + 1, body);
+        self.copy(body, body + 1);
+        let mut i = body + 1;
+        while i < end - 1 {
+            let arrow = self.find(i, &["=>"]);
+            let text = format!("{head}: {}", self.text(i, arrow));
+            self.copy(i, arrow + 1);
+            i = match self.at(arrow + 1) {
+                "{" => self.block(arrow + 1, text),
+                _ => {
+                    let end = self.find(arrow + 1, &[","]);
+                    self.expression(arrow + 1, end, text)
+                }
+            };
+            if self.at(i) == "," {
+                self.copy(i, i + 1);
+                i += 1;
+            }
+        }
+        self.copy(end - 1, end);
+        end
+    }
+
+    fn closure(&mut self, i: usize) -> usize {
+        let body = match self.at(i) {
+            "||" => i + 1,
+            _ => self.find(i + 1, &["|"]) + 1,
+        };
+        self.copy(i, body);
+        let text = format!("closure: {}", self.line(i));
+        match self.at(body) {
+            "{" => self.block(body, text),
+            _ => {
+                let end = self.find(body, &[",", ";"]);
+                self.expression(body, end, text)
+            }
+        }
+    }
+}
