@@ -1,0 +1,171 @@
+//! Inputs of the listing: those that are named, and random ones, of which half are damaged.
+
+use crate::inputs::Inputs;
+use crate::model::MOST;
+
+/// The bytes of an input with these commands and records.
+pub fn input(commands: &[Vec<u8>], records: &[Vec<u8>]) -> Vec<u8> {
+    let mut bytes = Vec::new();
+    for items in [commands, records] {
+        bytes.extend((items.len() as u16).to_be_bytes());
+        for item in items {
+            bytes.extend((item.len() as u16).to_be_bytes());
+            bytes.extend(item);
+        }
+    }
+    bytes
+}
+
+fn command(inputs: &mut Inputs) -> Vec<u8> {
+    let header = [
+        [0x00, 0xA4, 0x04, 0x00],
+        [0x80, 0x10, 0xFF, 0x01],
+        [0xFF, 0xB0, 0x00, 0x00],
+    ];
+    let mut bytes = header[inputs.below(20).saturating_sub(17)].to_vec();
+    let extended = inputs.below(2) == 1;
+    let n = [0, 1, 2, 5, 255, 256, 300][inputs.below(if extended { 7 } else { 5 })];
+    let le = inputs.below(2) == 1;
+    if n > 0 {
+        bytes.extend(if extended {
+            vec![0, (n >> 8) as u8, n as u8]
+        } else {
+            vec![n as u8]
+        });
+        bytes.extend(inputs.bytes(n));
+    }
+    if le {
+        let value = [0, 1, 256, 0x1234][inputs.below(4)] as u16;
+        let [high, low] = value.to_be_bytes();
+        match (extended, n) {
+            (true, 0) => bytes.extend([0, high, low]),
+            (true, _) => bytes.extend([high, low]),
+            (false, _) => bytes.push(low),
+        }
+    }
+    bytes
+}
+
+fn object(inputs: &mut Inputs) -> Vec<u8> {
+    let tags: [&[u8]; 9] = [
+        &[0x00],
+        &[0x5A],
+        &[0xE1],
+        &[0xFE],
+        &[0x5F, 0x24],
+        &[0x9F, 0x7F],
+        &[0xDF, 0xFF],
+        &[0xDF, 0x81, 0x01],
+        &[0x7F, 0xFE, 0xFF],
+    ];
+    let mut bytes = tags[inputs.below(tags.len())].to_vec();
+    let n = [0, 1, 3, 8, 127, 128, 200, 256][inputs.below(8)];
+    match inputs.below(3) {
+        0 if n < 128 => bytes.push(n as u8),
+        1 if n < 256 => bytes.extend([0x81, n as u8]),
+        _ => bytes.extend([0x82, (n >> 8) as u8, n as u8]),
+    }
+    bytes.extend(inputs.bytes(n));
+    bytes
+}
+
+fn record(inputs: &mut Inputs) -> Vec<u8> {
+    let bytes: Vec<u8> = (0..inputs.below(6)).flat_map(|_| object(inputs)).collect();
+    if inputs.below(3) == 0 {
+        inputs.damaged(&bytes)
+    } else {
+        bytes
+    }
+}
+
+pub fn random(inputs: &mut Inputs) -> Vec<u8> {
+    let commands: Vec<_> = (0..inputs.below(5))
+        .map(|_| {
+            let bytes = command(inputs);
+            if inputs.below(3) == 0 {
+                inputs.damaged(&bytes)
+            } else {
+                bytes
+            }
+        })
+        .collect();
+    let records: Vec<_> = (0..inputs.below(5)).map(|_| record(inputs)).collect();
+    let bytes = input(&commands, &records);
+    if inputs.below(2) == 0 {
+        inputs.damaged(&bytes)
+    } else {
+        bytes
+    }
+}
+
+/// An input of so many bytes: two sections, the second with one record of the smallest objects.
+fn of_length(len: usize, record: impl Fn(usize) -> Vec<u8>) -> Vec<u8> {
+    let bytes = input(&[], &[record(len - 6)]);
+    assert_eq!(bytes.len(), len);
+    bytes
+}
+
+/// The document's example, and the edges that issue 8 and document 01 name.
+pub fn named() -> Vec<Vec<u8>> {
+    let example = b"\x00\x02\x00\x04\x00\xA4\x04\x00\x00\x05\xFF\xB0\x00\x00\x00\x00\x01\x00\x06\x5F\x24\x03\x26\x10\x09";
+    let empty = input(&[], &[]);
+    let smallest = |n: usize| vec![0x00; n];
+    let one = |apdu: &[u8]| input(&[apdu.to_vec()], &[]);
+    let only = |record: &[u8]| input(&[], &[record.to_vec()]);
+    let mut all = vec![
+        example.to_vec(),
+        vec![],
+        empty.clone(),
+        [&empty[..], &[0]].concat(),
+        vec![0, 0, 0],
+        vec![0, 1, 0, 0],
+        vec![0xFF, 0xFF, 0, 0],
+        vec![0, 1, 0xFF, 0xFF, 0, 0],
+        of_length(MOST, smallest),
+        of_length(MOST + 1, smallest),
+        input(&vec![vec![]; 14_998], &vec![vec![]; 15_000]),
+        input(&vec![vec![0; 4]; 9_999], &[]),
+        only(&[]),
+        only(&[0x00, 0x00]),
+        only(&[0x5A, 0x00, 0x5F, 0x80, 0x00]),
+        only(&[0x5F]),
+        only(&[0x5A]),
+        only(&[0x5A, 0x02, 0x00]),
+        only(&[0x5A, 0x83, 0x00, 0x00, 0x01, 0x00]),
+        input(
+            &[],
+            &[
+                vec![0x5F, 0x24, 0x00],
+                vec![],
+                vec![0x5F],
+                vec![],
+                vec![0xDF, 0x81, 0x01, 0x81, 0x00],
+            ],
+        ),
+    ];
+    let objects = [
+        0x5A, 0x01, 0xAA, 0x5F, 0x24, 0x03, 0x26, 0x10, 0x09, 0xDF, 0x81, 0x01, 0x82, 0x00, 0x01,
+        0xBB,
+    ];
+    all.extend((0..=objects.len()).map(|n| only(&objects[..n])));
+    for body in [
+        &[][..],
+        &[0x00],
+        &[0x07],
+        &[0x00, 0x05],
+        &[0x02, 0xAA],
+        &[0x01, 0xAA],
+        &[0x01, 0xAA, 0x00],
+        &[0x00, 0x00, 0x00],
+        &[0x00, 0x00, 0x01],
+        &[0x00, 0x00, 0x01, 0xAA],
+        &[0x00, 0x00, 0x01, 0xAA, 0x00, 0x00],
+        &[0x00, 0x00, 0x00, 0x01, 0x02],
+        &[0x00, 0x00, 0x02, 0xAA],
+    ] {
+        all.push(one(&[&[0x00, 0xB0, 0x00, 0x00], body].concat()));
+        all.push(one(&[&[0xFF, 0xB0, 0x00, 0x00], body].concat()));
+    }
+    all.extend((0..4).map(|n| one(&[0x00; 4][..n])));
+    all
+}
