@@ -4,12 +4,13 @@
 //!
 //! Neither side is inlined into the loop: a call is one call of the Rust's function, or one of what is exported. The sides
 //! alternate round by round, and the best round of each counts. It fails where ours takes more than its limit, a tenth longer
-//! for a command that is read, written or cut and half as long again for a lookup, unless it runs emulated. A line with the limit
-//! `inf` has none.
+//! for a command that is read, written or cut, a fifth for one that is joined and half as long again for a lookup, unless it runs
+//! emulated. A line with the limit `inf` has none.
 
 mod builder;
 mod command;
 mod lookup;
+mod reassembler;
 mod splitter;
 
 use std::{env, process};
@@ -60,6 +61,7 @@ fn main() {
     command::time(&mut lines);
     builder::time(&mut lines);
     splitter::time(&mut lines);
+    reassembler::time(&mut lines);
     lookup::time(&mut lines);
     if emulated {
         println!("emulated: x86-64 code on another machine; the times say nothing, and the ratios little");

@@ -16,9 +16,9 @@ const AT_LEAST: u64 = 50_000;
 pub const LEAST: u64 = 1_000;
 const LEAST_SHORT: u64 = 1;
 
-/// The numbers of refusal that the library gives. 20 is the listing's; 17 is the reassembler's, which is not compared here.
-const REFUSALS: [u8; 19] = [
-    1, 2, 3, 4, 5, 6, 7, 8, 9, 10, 11, 12, 13, 14, 15, 16, 18, 19, 21,
+/// The numbers of refusal that the library gives. 20 is the listing's.
+const REFUSALS: [u8; 20] = [
+    1, 2, 3, 4, 5, 6, 7, 8, 9, 10, 11, 12, 13, 14, 15, 16, 17, 18, 19, 21,
 ];
 
 /// What a run is asked for.

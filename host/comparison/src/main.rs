@@ -22,6 +22,7 @@ mod inputs;
 mod jobs;
 mod lent;
 mod panics;
+mod reassembler;
 mod splitter;
 mod tally;
 mod tlv;
@@ -33,17 +34,18 @@ use crate::jobs::{Asked, Job};
 use crate::tally::Tally;
 
 /// The parts of the short run, those that take longest first.
-const WHOLE: [Job; 6] = [
+const WHOLE: [Job; 7] = [
     tlv::compare,
     splitter::compare,
     builder::compare,
     command::compare,
+    reassembler::compare,
     aid::compare,
     class::compare,
 ];
 
 /// What the random cases are of. Each gets the same share of them.
-const RANDOM: [(&str, Job); 8] = [
+const RANDOM: [(&str, Job); 9] = [
     ("class and AID", class_and_aid),
     ("command, parsed and owned", command::random),
     ("command, extended", command::random_chain),
@@ -52,6 +54,7 @@ const RANDOM: [(&str, Job); 8] = [
     ("command, built", builder::random),
     ("command, one step of splitting", splitter::random_step),
     ("command, cut into a chain", splitter::random_chain),
+    ("pieces, joined", reassembler::random),
 ];
 
 fn class_and_aid(tally: &mut Tally, inputs: &mut Inputs) {

@@ -17,11 +17,18 @@
 //! | 14 | splitting one step: a buffer under 4, or no room for data in it; a chain: a buffer under 10 |
 //! | 15 | extended length is forced where it is unsupported |
 //! | 16 | what was lent for the answer is too short; an object or a command to write does not fit from the named place |
+//! | 17 | the piece does not continue the open chain |
 //! | 18 | the held data and the new data exceed the room |
 //! | 19 | the value to write is above 65,535 bytes |
 //! | 21 | standard reading: the command has an extended Lc of zero and an Le |
 //!
 //! Where several would be given, the smallest is; but 2 comes behind 3, 4 and 5, and a `buffer` that is too short behind 19.
+
+mod reassembler;
+mod relay;
+
+pub use reassembler::{joined_data, Record, JOIN_NUMBERS, RECORD_NUMBERS};
+pub use relay::{cut_and_join, RELAY_NUMBERS};
 
 /// A refusal's number.
 #[derive(Clone, Copy, Debug, PartialEq, Eq)]

@@ -1,0 +1,58 @@
+use borrow.Author.Needs.{needs}
+use mathlib.Core.Path.{sym, ap, _∙_}
+use lib.ListN.{length}
+use lib.Seq.{length-take-le}
+use native.Mathlib.Omega.{arith}
+use Rattle.exports_reassembler.specs.Numbers.{saidRecord}
+use Rattle.exports_reassembler.proofs.Laws.{within, under-four, no-record, joined}
+use Rattle.exports_reassembler.proofs.gorvisclen_join.Statement.{statement}
+use Rattle.exports_reassembler.proofs.gorvisclen_join.Tie as tie
+
+returns : tie.Need-returns
+returns c = under-four _ _ _ _ (c .if1 .taken)
+
+slice-relend-prefix-join : tie.Need-slice-relend-prefix-join
+slice-relend-prefix-join c =
+    let a = c .before .before .before .before .before .before .before .before .before .args in
+    within (length (a .room .now)) (length (a .out .now)) (c .usable .ensures)
+
+slice-aggregate-join : tie.Need-slice-aggregate-join
+slice-aggregate-join c =
+    let a = c .before .before .before .before .before .before .before .before .before .before .args in
+    sym (length-take-le _ (a .room .now) (within (length (a .room .now)) (length (a .out .now)) (c .before .usable .ensures)))
+
+returns-2 : tie.Need-returns-2
+returns-2 c =
+    let k = c .before .before in
+    let n = k .before .before in
+    no-record _ _ _ _ (omega (arith, n .before .if1 .left)) _ _ (sym (n .record-numbered .ensures) ∙ ap saidRecord (k .k .given .1))
+    (c .refuse .ensures)
+
+returns-3 : tie.Need-returns-3
+returns-3 c =
+    let t = c .before .before in
+    let j = t .before .before .before .before in
+    let u = j .before .before in
+    let k = u .before .before in
+    let n = k .before .before in
+    joined _ _ _ _ (omega (arith, n .before .if1 .left)) _ (sym (n .record-numbered .ensures) ∙ ap saidRecord (k .before2 .given .1)) _ _ _ _
+    (u .usable .ensures) _ (j .join .ensures) (t .tell-joined .ensures)
+
+pub gorvisclen-join-spec : {M : Type 1} → statement M
+gorvisclen-join-spec =
+    tie.close
+    (tie.spec
+    returns
+    (λ c κs. search needs)
+    (λ c. search needs)
+    (λ c κs. search needs)
+    (λ c. search needs)
+    (λ c κs. search needs)
+    slice-relend-prefix-join
+    slice-aggregate-join
+    (λ c κs. search needs)
+    (λ c κs. search needs)
+    returns-2
+    (λ c. search needs)
+    (λ c. search needs)
+    returns-3)

@@ -1,0 +1,202 @@
+// What a host program calls to join pieces: the record passes as numbers, into a call and out of it. Each function replies 0, or
+// the number of a refusal of document 01.
+ghost use mathlib.Core.Path.{_≡_};
+ghost use mathlib.Core.List.{_++_};
+ghost use Rattle.basis.specs.Reply.{is};
+ghost use Rattle.reassembler.specs.Join.{said};
+ghost use Rattle.tell.specs.Answers.{Answers};
+ghost use Rattle.exports_reassembler.specs.Numbers.{saidRecord, recordNumbered, heldNumbers, recordNumbers, commandNumbers};
+ghost use Rattle.exports_reassembler.specs.Numbers.{telling, metBy, usableOf, PieceJoined, reset-is, ofLength, JoinedData};
+use class::Class;
+use class::FromByte;
+use command::Command;
+use reassembler::Held;
+use reassembler::Joining;
+use reassembler::Reassembler;
+use tell::flag;
+use tell::refuse;
+use tell::tell;
+
+enum Numbered {
+    Chain(Reassembler),
+    Refused(u8),
+}
+
+// The record by numbers: closed where `opened` is 0, whatever the others are.
+fn record_numbered(opened: u8, class: u8, instruction: u8, p1: u8, p2: u8, held: usize) -> Numbered
+    ensures { λ r. ⌜ saidRecord r ≡ recordNumbered opened class instruction p1 p2 held ⌝ }
+{
+    if opened == 0 {
+        return Numbered::Chain(Reassembler::new());
+    }
+    match Class::from_byte(class) {
+        FromByte::Refused(k) => Numbered::Refused(k),
+        FromByte::Class(class) => {
+            let chain = Held {
+                class,
+                instruction,
+                p1,
+                p2,
+                len: held,
+            };
+            Numbered::Chain(Reassembler::Open(chain))
+        }
+    }
+}
+
+fn held_numbers(held: Held) -> [u64; 6]
+    ensures { λ r. ⌜ r ≡ heldNumbers held ⌝ }
+{
+    let class = held.class;
+    [
+        1,
+        class.into_inner() as u64,
+        held.instruction as u64,
+        held.p1 as u64,
+        held.p2 as u64,
+        held.len as u64,
+    ]
+}
+
+fn record_numbers(chain: Reassembler) -> [u64; 6]
+    ensures { λ r. ⌜ r ≡ recordNumbers chain ⌝ }
+{
+    match chain {
+        Reassembler::Closed => [0, 0, 0, 0, 0, 0],
+        Reassembler::Open(held) => held_numbers(held),
+    }
+}
+
+fn command_numbers(command: Command) -> [u64; 8]
+    ensures { λ r. ⌜ r ≡ commandNumbers command ⌝ }
+{
+    let class = command.class;
+    [
+        1,
+        class.into_inner() as u64,
+        command.instruction as u64,
+        command.p1 as u64,
+        command.p2 as u64,
+        command.len as u64,
+        command.le as u64,
+        flag(command.extended),
+    ]
+}
+
+// Tells an answer's numbers, and those of the record behind them.
+fn tell_both(answer: &[u64; 8], chain: Reassembler, out: &mut [u64]) -> u8
+    ensures { λ r. ⌜ Answers 14 (is (now (answer .entry) ++ recordNumbers chain)) (now (out .entry)) r (now (out .exit)) ⌝ }
+{
+    if out.len() < 14 {
+        return 16;
+    }
+    tell(answer, out);
+    let numbers = record_numbers(chain);
+    tell(&numbers, &mut out[8..])
+}
+
+// Tells the answer to a piece and the record after it.
+fn tell_joined(answer: Joining, chain: Reassembler, out: &mut [u64]) -> u8
+    ensures { λ r. ⌜ Answers 14 (telling (said answer) chain) (now (out .entry)) r (now (out .exit)) ⌝ }
+{
+    match answer {
+        Joining::Refused(k) => refuse(k, out.len(), 14),
+        Joining::More => {
+            let none = [0, 0, 0, 0, 0, 0, 0, 0];
+            tell_both(&none, chain, out)
+        }
+        Joining::Command(command) => {
+            let numbers = command_numbers(command);
+            tell_both(&numbers, chain, out)
+        }
+    }
+}
+
+// How much of the room a piece may use: nothing where so many numbers are too few for the answer.
+fn usable(room: usize, given: usize) -> usize
+    ensures { λ r. ⌜ r ≡ usableOf room given ⌝ }
+{
+    if given < 14 { 0 } else { room }
+}
+
+#[no_mangle]
+pub extern "C" fn gorvisclen_join(
+    opened: u8,
+    class: u8,
+    instruction: u8,
+    p1: u8,
+    p2: u8,
+    held: usize,
+    piece: &[u8],
+    room: &mut [u8],
+    out: &mut [u64],
+) -> u8
+    ensures { λ r. ⌜ PieceJoined (metBy (now (piece .entry)) (recordNumbered opened class instruction p1 p2 held)) (now (piece .entry))
+        (now (room .entry)) (now (out .entry)) r (now (room .exit)) (now (out .exit)) ⌝ }
+{
+    if piece.len() < 4 {
+        return 1;
+    }
+    match record_numbered(opened, class, instruction, p1, p2, held) {
+        Numbered::Refused(k) => refuse(k, out.len(), 14),
+        Numbered::Chain(before) => {
+            let end = usable(room.len(), out.len());
+            let joined = before.join(piece, &mut room[..end]);
+            let answer = joined.answer;
+            let rest = joined.rest;
+            tell_joined(answer, rest, out)
+        }
+    }
+}
+
+#[no_mangle]
+pub extern "C" fn gorvisclen_reset(
+    opened: u8,
+    class: u8,
+    instruction: u8,
+    p1: u8,
+    p2: u8,
+    held: usize,
+    out: &mut [u64],
+) -> u8
+    ensures { λ r. ⌜ reset-is opened class instruction p1 p2 held (now (out .entry)) r (now (out .exit)) ⌝ }
+{
+    match record_numbered(opened, class, instruction, p1, p2, held) {
+        Numbered::Refused(_) => {
+            let numbers = record_numbers(Reassembler::new());
+            tell(&numbers, out)
+        }
+        Numbered::Chain(before) => {
+            let numbers = record_numbers(before.reset());
+            tell(&numbers, out)
+        }
+    }
+}
+
+// A command with so many bytes of data; nothing else of it is asked.
+fn of_length(len: usize) -> Command
+    ensures { λ r. ⌜ r ≡ ofLength len ⌝ }
+{
+    let class = class::ZERO_CLA;
+    Command {
+        class,
+        instruction: 0,
+        p1: 0,
+        p2: 0,
+        len,
+        le: 0,
+        extended: false,
+    }
+}
+
+#[no_mangle]
+pub extern "C" fn gorvisclen_joined_data(
+    len: usize,
+    room: &[u8],
+    to: &mut [u8],
+    out: &mut [u64],
+) -> u8
+    ensures { λ r. ⌜ JoinedData len (now (room .entry)) (now (to .entry)) (now (out .entry)) r (now (to .exit)) (now (out .exit)) ⌝ }
+{
+    tell::copy(reassembler::data(of_length(len), room), to, out)
+}

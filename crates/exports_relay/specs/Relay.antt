@@ -1,0 +1,128 @@
+-- A command cut and its pieces joined again, each as soon as it is written. Document 01, "Building and cutting", "Reassembly" and
+-- "Numbers of refusal": the first refusal that is met ends the run, and buffer and room stay as the pieces before it left them.
+use Prim.Native.Nat.{ℕ, zero, suc, _+_}
+use mathlib.Core.Path.{_≡_}
+use mathlib.Core.Bool.{false}
+use mathlib.Core.List.{List, [], _∷_}
+use mathlib.Core.Option.{Option, none, some}
+use lib.ListN.{length, take}
+use Rattle.basis.specs.Reply.{Reply, is, no, then, status}
+use Rattle.command.specs.declared.owned.Command.{Command}
+use Rattle.splitter.specs.Pieces.{nextOf, writeOf, pieceIn, bufferAfter}
+use Rattle.splitter.specs.declared.pieces.Pieces.{Pieces}
+use Rattle.splitter.specs.declared.pieces.Written.{Written}
+use Rattle.reassembler.specs.Join.{Outcome, joinOf}
+use Rattle.reassembler.specs.declared.Reassembler.{Reassembler}
+use Rattle.reassembler.specs.declared.Reassembler.the-variants.{Closed}
+use Rattle.tell.specs.Answers.{flagOf, fitting, written}
+use Rattle.exports_relay.specs.declared.State.{State}
+use Rattle.exports_relay.specs.declared.Turn.{Turn}
+use Rattle.exports_relay.specs.declared.Turn.the-variants as turn
+use Rattle.exports_relay.specs.declared.End.{End}
+use Rattle.exports_relay.specs.declared.End.the-variants as end
+
+-- what stands for a command where none was given back yet: zeros
+abbrev pub noCommand : Command
+noCommand =
+    record { class = record { cla = 0x00 }; instruction = 0; p1 = 0; p2 = 0; len = 0; le = 0; extended = false }
+
+-- a run that starts: all of the chain is left, and no chain is open
+abbrev pub startOf : Pieces → State
+startOf c = record { chain = c; chained = Closed; pieces = 0; more = 0; last = noCommand }
+
+-- the run after a piece: the reply was "more", or the command
+abbrev pub afterMore : State → Pieces → Reassembler → State
+afterMore x c r = record { chain = c; chained = r; pieces = x .pieces + 1; more = x .more + 1; last = x .last }
+
+abbrev pub afterCommand : State → Pieces → Reassembler → Command → State
+afterCommand x c r k = record { chain = c; chained = r; pieces = x .pieces + 1; more = x .more; last = k }
+
+abbrev pub nextBy : State → Pieces → Reassembler → Option Command → State
+nextBy x c r none = afterMore x c r
+nextBy x c r (some k) = afterCommand x c r k
+
+-- what a piece comes to, with buffer and room after it: the run after it, or none where no piece was left
+pub record Turned : Type 0 where
+  pub reply : Reply (Option State)
+  pub buffer : List ℕ
+  pub room : List ℕ
+
+-- the outcome of the piece at the buffer's front
+abbrev pub afterOf : State → Written → List ℕ → Outcome → Turned
+afterOf x w buffer o =
+    record { reply = then (o .reply) (λ a. is (some (nextBy x (w .rest) (o .state) a))); buffer = buffer; room = o .room }
+
+unfoldable pub joinedIn : State → Written → List ℕ → List ℕ → Turned
+joinedIn x w buffer room = afterOf x w buffer (joinOf (x .chained) room (take (w .len) buffer))
+
+-- the next piece, which was written at the buffer's front and is joined
+abbrev pub writtenIn : State → Reply (Option Written) → List ℕ → List ℕ → Turned
+writtenIn x (is (some w)) buffer room = joinedIn x w buffer room
+writtenIn x (is none) buffer room = record { reply = is none; buffer = buffer; room = room }
+writtenIn x (no k) buffer room = record { reply = no k; buffer = buffer; room = room }
+
+unfoldable pub turnOf : State → List ℕ → List ℕ → List ℕ → Turned
+turnOf x d buffer room =
+    writtenIn x (writeOf (x .chain) d (length buffer) 0)
+    (bufferAfter (writeOf (x .chain) d (length buffer) 0) (pieceIn (nextOf (x .chain) d) d) buffer 0) room
+
+-- the end of a run, with buffer and room after it
+pub record Ended : Type 0 where
+  pub reply : Reply State
+  pub buffer : List ℕ
+  pub room : List ℕ
+
+abbrev pub runBy : State → Reply (Option State) → List ℕ → List ℕ → (State → Ended) → Ended
+runBy x (is (some y)) buffer room further = further y
+runBy x (is none) buffer room further = record { reply = is x; buffer = buffer; room = room }
+runBy x (no k) buffer room further = record { reply = no k; buffer = buffer; room = room }
+
+-- a run of at most n pieces
+unfoldable pub runIn : ℕ → State → List ℕ → List ℕ → List ℕ → Ended
+runIn zero x d buffer room = record { reply = is x; buffer = buffer; room = room }
+runIn (suc n) x d buffer room =
+    runBy x (turnOf x d buffer room .reply) (turnOf x d buffer room .buffer) (turnOf x d buffer room .room)
+    (λ y. runIn n y d (turnOf x d buffer room .buffer) (turnOf x d buffer room .room))
+
+-- a whole run: a command has no more pieces than its data have bytes, and one
+abbrev pub endedOf : Reply Pieces → List ℕ → List ℕ → List ℕ → Ended
+endedOf (is c) d buffer room = runIn (length d + 1) (startOf c) d buffer room
+endedOf (no k) d buffer room = record { reply = no k; buffer = buffer; room = room }
+
+-- how many pieces were joined and how many replies were "more"; of the command given back last: class, instruction, P1, P2, length of
+-- the data, expected length, extended
+unfoldable pub stateNumbers : State → List ℕ
+stateNumbers x =
+    x .pieces ∷ x .more ∷ x .last .class .cla ∷ x .last .instruction ∷ x .last .p1 ∷ x .last .p2 ∷ x .last .len ∷ x .last .le
+    ∷ flagOf (x .last .extended) ∷ []
+
+abbrev pub saidTurn : Turn → Reply (Option State)
+saidTurn (turn.Next x) = is (some x)
+saidTurn turn.Over = is none
+saidTurn (turn.Refused k) = no k
+
+abbrev pub saidEnd : End → Reply State
+saidEnd (end.Done x) = is x
+saidEnd (end.Refused k) = no k
+
+-- a turn and a run, with buffer and room at exit
+pub record Turns (t : Turned) (x : Turn) (buffer room : List ℕ) : Type 0 where
+  pub says : saidTurn x ≡ t .reply
+  pub buffered : buffer ≡ t .buffer
+  pub roomed : room ≡ t .room
+
+pub record Ends (e : Ended) (x : End) (buffer room : List ℕ) : Type 0 where
+  pub says : saidEnd x ≡ e .reply
+  pub buffered : buffer ≡ e .buffer
+  pub roomed : room ≡ e .room
+
+-- the end told, where a slice was long enough
+pub record Tells (e : Ended) (out : List ℕ) (r : ℕ) (buffer room out′ : List ℕ) : Type 0 where
+  pub reply : r ≡ status (e .reply)
+  pub buffered : buffer ≡ e .buffer
+  pub roomed : room ≡ e .room
+  pub told : out′ ≡ written (then (e .reply) (λ x. is (stateNumbers x))) out
+
+-- the promise of `gorvisclen_cut_and_join`, for the chain x: the slice for nine numbers is tested when the chain is made
+abbrev pub Relayed : Reply Pieces → List ℕ → List ℕ → List ℕ → List ℕ → ℕ → List ℕ → List ℕ → List ℕ → Type 0
+Relayed x d buffer room out r buffer′ room′ out′ = Tells (endedOf (fitting 9 (length out) x) d buffer room) out r buffer′ room′ out′

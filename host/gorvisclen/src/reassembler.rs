@@ -1,0 +1,132 @@
+//! Pieces of chained commands joined in a lent room. The record of a chain passes as numbers, which the caller keeps.
+
+use crate::{reply, Reply};
+
+/// How many numbers `Record::join` writes.
+pub const JOIN_NUMBERS: usize = 14;
+
+/// How many numbers a record is, and `Record::reset` writes.
+pub const RECORD_NUMBERS: usize = 6;
+
+// A slice passes as its pointer and its length.
+extern "C" {
+    fn gorvisclen_join(
+        opened: u8,
+        class: u8,
+        instruction: u8,
+        p1: u8,
+        p2: u8,
+        held: usize,
+        piece: *const u8,
+        piece_len: usize,
+        room: *mut u8,
+        room_len: usize,
+        out: *mut u64,
+        out_len: usize,
+    ) -> u8;
+    fn gorvisclen_reset(
+        opened: u8,
+        class: u8,
+        instruction: u8,
+        p1: u8,
+        p2: u8,
+        held: usize,
+        out: *mut u64,
+        out_len: usize,
+    ) -> u8;
+    fn gorvisclen_joined_data(
+        len: usize,
+        room: *const u8,
+        room_len: usize,
+        to: *mut u8,
+        to_len: usize,
+        out: *mut u64,
+        out_len: usize,
+    ) -> u8;
+}
+
+/// A record: `opened` 0 where no chain is open, and then the others say nothing; any other number for an open chain, with the
+/// header of its pieces, whose bit 0x10 says nothing, and how many bytes of the room are held.
+#[derive(Clone, Copy, Debug, PartialEq, Eq)]
+pub struct Record {
+    pub opened: u8,
+    pub header: [u8; 4],
+    pub held: usize,
+}
+
+impl Record {
+    pub const CLOSED: Record = Record {
+        opened: 0,
+        header: [0; 4],
+        held: 0,
+    };
+
+    /// The record of six numbers: 1, class byte, instruction byte, P1, P2, bytes held; or zeros where no chain is open.
+    #[inline]
+    pub fn of([opened, class, instruction, p1, p2, held]: [u64; RECORD_NUMBERS]) -> Record {
+        Record {
+            opened: opened as u8,
+            header: [class as u8, instruction as u8, p1 as u8, p2 as u8],
+            held: held as usize,
+        }
+    }
+
+    /// Takes a piece, whose data go into `room` behind those held, or from its beginning where no chain is open. Writes 14
+    /// numbers. Eight for the answer: 1, class byte, instruction byte, P1, P2, the length of the joined data at the beginning of `room`, the
+    /// expected length and whether it is extended, 0 or 1, for a command; zeros where more pieces are to come. Then the six of the
+    /// record after the piece.
+    /// Refusals: those of the piece, 1, 3, 4, 5; 3 where a chain is open with class byte 0xFF; 16; 17; 18.
+    #[inline]
+    pub fn join(self, piece: &[u8], room: &mut [u8], out: &mut [u64]) -> Reply {
+        let [class, instruction, p1, p2] = self.header;
+        reply(unsafe {
+            gorvisclen_join(
+                self.opened,
+                class,
+                instruction,
+                p1,
+                p2,
+                self.held,
+                piece.as_ptr(),
+                piece.len(),
+                room.as_mut_ptr(),
+                room.len(),
+                out.as_mut_ptr(),
+                out.len(),
+            )
+        })
+    }
+
+    /// Forgets an open chain: the six numbers of the record after it. Refusal, of every record: 16.
+    pub fn reset(self, out: &mut [u64]) -> Reply {
+        let [class, instruction, p1, p2] = self.header;
+        reply(unsafe {
+            gorvisclen_reset(
+                self.opened,
+                class,
+                instruction,
+                p1,
+                p2,
+                self.held,
+                out.as_mut_ptr(),
+                out.len(),
+            )
+        })
+    }
+}
+
+/// Copies the data of a joined command, the first `len` bytes of `room`, or all where it has fewer, to the front of `to`. Writes
+/// one number: how many they are. Refusal: 16.
+pub fn joined_data(len: usize, room: &[u8], to: &mut [u8], out: &mut [u64]) -> Reply {
+    reply(unsafe {
+        gorvisclen_joined_data(
+            len,
+            room.as_ptr(),
+            room.len(),
+            to.as_mut_ptr(),
+            to.len(),
+            out.as_mut_ptr(),
+            out.len(),
+        )
+    })
+}
