@@ -14,7 +14,6 @@ use Rattle.listing.specs.Lines.{Given, stepOf, lineIn, textIn, bufferAfter}
 use Rattle.listing.specs.declared.lines.Lines.{Lines}
 use Rattle.listing.specs.declared.lines.Lines.the-variants as lines
 use Rattle.listing.specs.declared.lines.Line.{Line}
-use Rattle.listing.specs.declared.lines.NextLine.the-variants as next
 use Rattle.listing.proofs.Making.{front}
 use Rattle.listing_laws.specs.Run.{Run, end, more, Seen, none-left, line, again, Reached, start, behind}
 use Rattle.listing_laws.proofs.Listed.{listed}

@@ -4,7 +4,7 @@ use mathlib.Core.Path.{_≡_}
 use mathlib.Core.List.{List, [], _∷_, _++_}
 use mathlib.Core.Option.{none, some}
 use lib.ListN.{getD, take}
-use Rattle.basis.specs.Reply.{is, no}
+use Rattle.basis.specs.Reply.{is}
 use Rattle.listing.specs.Lines.{Given, stepOf, next-line-is}
 use Rattle.listing.specs.declared.lines.Lines.{Lines}
 use Rattle.listing.specs.declared.lines.Lines.the-variants as lines
