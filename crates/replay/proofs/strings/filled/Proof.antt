@@ -1,0 +1,25 @@
+-- It ends: each turn puts a byte. Assumes nothing.
+use borrow.Author.Needs.{needs}
+use Prim.Native.Nat.{_-_}
+use Rattle.replay.proofs.strings.filled.Statement.{statement}
+use Rattle.replay.proofs.strings.filled.Tie as tie
+
+abbrev Inv-loop : tie.InvT-loop
+Inv-loop to₀ from n first step at₀ b₀ i₀ to at b i = Unit {0}
+
+abbrev μ-loop : tie.MeasureT-loop
+μ-loop to₀ from n first step at₀ b₀ i₀ to at b i = n - i
+
+pub filled-spec : {M : Type 1} → statement M
+filled-spec =
+    tie.close
+    (tie.spec
+    Inv-loop
+    μ-loop
+    (λ c. search needs)
+    (λ c κs. search needs)
+    (λ c κs. search needs)
+    (λ c. search needs)
+    (λ c. search needs)
+    (λ c. search needs)
+    (λ c. search needs))

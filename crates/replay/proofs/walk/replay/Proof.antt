@@ -1,0 +1,31 @@
+-- It ends: each turn counts, up to what the file says. Assumes nothing.
+use borrow.Author.Needs.{needs}
+use Prim.Native.Nat.{_-_}
+use Rattle.replay.proofs.walk.replay.Statement.{statement}
+use Rattle.replay.proofs.walk.replay.Tie as tie
+
+abbrev Inv-loop : tie.InvT-loop
+Inv-loop operation file texts₀ others₀ room₀ out₀ tally₀ count at₀ turn₀ texts others room out tally at turn = Unit {0}
+
+abbrev μ-loop : tie.MeasureT-loop
+μ-loop operation file texts₀ others₀ room₀ out₀ tally₀ count at₀ turn₀ texts others room out tally at turn = count - turn
+
+pub replay-spec : {M : Type 1} → statement M
+replay-spec =
+    tie.close
+    (tie.spec
+    Inv-loop
+    μ-loop
+    (λ c κs. search needs)
+    (λ c. search needs)
+    (λ c κs. search needs)
+    (λ c κs. search needs)
+    (λ c κs. search needs)
+    (λ c. search needs)
+    (λ c κs. search needs)
+    (λ c κs. search needs)
+    (λ c κs. search needs)
+    (λ c. search needs)
+    (λ c. search needs)
+    (λ c. search needs)
+    (λ c. search needs))

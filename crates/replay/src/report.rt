@@ -1,0 +1,30 @@
+// Lines on standard output.
+
+// A number between words.
+pub(crate) fn number(before: &[u8], n: usize, behind: &[u8]) {
+    io::write_all(1, before);
+    io::print_decimal(1, n as u64);
+    io::write_all(1, behind);
+}
+
+fn byte(b: u8) {
+    io::print_hex(1, b as u64, 2);
+}
+
+// Bytes, each in two hexadecimal digits.
+fn bytes(shown: &[u8]) {
+    let mut i = 0;
+    while i < shown.len() {
+        byte(shown[i]);
+        i += 1;
+    }
+}
+
+// An answer that differs.
+pub(crate) fn difference(n: usize, expected: &[u8], found: &[u8]) {
+    number(b"WRONG: answer ", n, b" of the file: expected ");
+    bytes(expected);
+    io::write_all(1, b", found ");
+    bytes(found);
+    io::write_all(1, b"\n");
+}

@@ -1,0 +1,147 @@
+//! Commands cut: single steps in every mode, and whole chains. A chain for a buffer under 10 is recorded where the Rust panics.
+
+use opened::command::class::Class;
+use opened::command::CommandBuilder;
+
+use crate::builder::{bytes, some_asked, told, unless_it_panics, Asked, EXPECTED, LENGTHS};
+use crate::file::{checksum, three, Answer, File, Text};
+use crate::inputs::Inputs;
+
+const STEP: u8 = 17;
+const CHAIN: u8 = 18;
+
+fn step(asked: &Asked, data: &[u8], available: usize) -> Answer {
+    let split = asked
+        .made(data)
+        .and_then(|builder| unless_it_panics(|| builder.should_split(available)).ok_or(14));
+    match split {
+        Err(number) => Answer::refused(number),
+        Ok(None) => Answer::accepted().byte(0),
+        Ok(Some((now, later))) => {
+            let len = now.data().len();
+            assert_eq!([now.data(), later.data()].concat(), data);
+            let answer = Answer::accepted().byte(1).number(len);
+            told(&later, told(&now, answer))
+        }
+    }
+}
+
+type Pieces<'a> = Vec<CommandBuilder<&'a [u8]>>;
+
+/// The pieces; 3 where the Rust has no such class, 13 where it panics for the data, 14 where it panics as it cuts.
+fn cut<'a>(asked: &Asked, data: &'a [u8], available: usize) -> Result<Pieces<'a>, u8> {
+    let [class, instruction, p1, p2] = asked.header;
+    let class = Class::try_from(class).map_err(|_| 3)?;
+    let (instruction, le) = (instruction.into(), asked.le as u16);
+    let len = Some(available);
+    let new = || CommandBuilder::new_non_extended(class, instruction, p1, p2, data, le, len);
+    let chain = unless_it_panics(new).ok_or(13)?;
+    unless_it_panics(|| chain.collect()).ok_or(14)
+}
+
+/// How many the pieces are, how many bytes they take, and the checksum of each length and the bytes behind it.
+fn sums(pieces: &Pieces) -> Answer {
+    let (mut total, mut sum) = (0, 0);
+    for piece in pieces {
+        let bytes = bytes(piece);
+        total += bytes.len();
+        sum = checksum(checksum(sum, &three(bytes.len())), &bytes);
+    }
+    Answer::accepted()
+        .number(pieces.len())
+        .number(total)
+        .checksum(sum)
+}
+
+/// Nothing where the Rust cuts for a buffer under 10, which is ours to refuse.
+fn chain(asked: &Asked, data: &[u8], available: usize) -> Option<Answer> {
+    match cut(asked, data, available) {
+        Err(number) => Some(Answer::refused(number)),
+        Ok(_) if available < 10 => None,
+        Ok(pieces) => Some(sums(&pieces)),
+    }
+}
+
+/// A buffer around a boundary.
+fn some_buffer(inputs: &mut Inputs) -> usize {
+    match inputs.below(4) {
+        0 => inputs.below(13),
+        1 => 255 + inputs.below(11),
+        2 => 65_530 + inputs.below(16),
+        _ => inputs.one_of(&[10, 20, 100, 261, 600, 1_000, 131_072, 16_777_215]),
+    }
+}
+
+fn add_step(file: &mut File, asked: &Asked, data: &Text, available: usize) {
+    let numbers = [&asked.numbers()[..], &three(available)].concat();
+    let answer = step(asked, &data.bytes, available);
+    file.add(STEP, [data, &Text::none()], &numbers, answer);
+}
+
+fn add_chain(file: &mut File, asked: &Asked, data: &Text, available: usize) {
+    let numbers = [&asked.numbers()[..], &three(available)].concat();
+    if let Some(answer) = chain(asked, &data.bytes, available) {
+        file.add(CHAIN, [data, &Text::none()], &numbers, answer);
+    }
+}
+
+fn steps(file: &mut File, inputs: &mut Inputs) {
+    for len in LENGTHS {
+        for le in EXPECTED {
+            for mode in 0..3 {
+                let data = Text::some(inputs, len);
+                let asked = Asked {
+                    le,
+                    mode,
+                    ..some_asked(inputs)
+                };
+                let available = some_buffer(inputs);
+                add_step(file, &asked, &data, available);
+                if let Ok(builder) = asked.made(&data.bytes) {
+                    let available = (builder.required_len() + inputs.below(3)) - 1;
+                    add_step(file, &asked, &data, available);
+                }
+            }
+        }
+    }
+    for _ in 0..100 {
+        let len = inputs.below(700);
+        let data = Text::some(inputs, len);
+        let (asked, available) = (some_asked(inputs), 4 + inputs.below(700));
+        add_step(file, &asked, &data, available);
+    }
+}
+
+fn chains(file: &mut File, inputs: &mut Inputs) {
+    let short = |inputs: &mut Inputs, le: usize| {
+        let mode = 0;
+        Asked {
+            le,
+            mode,
+            ..some_asked(inputs)
+        }
+    };
+    for len in LENGTHS {
+        for le in [0, 1, 255, 256, 257, 65_535] {
+            let data = Text::some(inputs, len);
+            for available in [inputs.below(9), 9, 10, 261, some_buffer(inputs).max(10)] {
+                if len < 1_000 || available > 200 || le == 1 {
+                    let asked = short(inputs, le);
+                    add_chain(file, &asked, &data, available);
+                }
+            }
+        }
+    }
+    for _ in 0..150 {
+        let len = inputs.below(2_000);
+        let data = Text::some(inputs, len);
+        let (le, available) = (inputs.below(300), 10 + inputs.below(300));
+        let asked = short(inputs, le);
+        add_chain(file, &asked, &data, available);
+    }
+}
+
+pub fn record(file: &mut File, inputs: &mut Inputs) {
+    steps(file, inputs);
+    chains(file, inputs);
+}
