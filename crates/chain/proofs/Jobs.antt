@@ -34,7 +34,7 @@ flag-is b n [] h g = absurd (omega arith)
 flag-is b n (p ∷ []) h g = h refl
 flag-is b n (p ∷ q ∷ ps) h g = refl
 
-module _ (j : Job) (f : Fair j) (room : List ℕ) (room-left : length (j .wanted .«data») ≤ length room) where
+module _ (j : Job) (f : Fair j) where
   abbrev builder : CommandBuilder
   builder =
       let w = j .wanted in
@@ -59,13 +59,6 @@ module _ (j : Job) (f : Fair j) (room : List ℕ) (room-left : length (j .wanted
       (λ one. extended-read builder (length d) .short (cuts .single one) (shown-short builder refl) (λ e. cc))
       (cuts .some-part)
 
-  pub job-sent : run Closed room (pieces j) ≡ record { replies = repliesTo j; state = Closed; room = over d room }
-  unfolding repliesTo
-  job-sent =
-      let cuts = cut-sends builder d (j .buffer) (f .ten) (f .few) in
-      cuts .sent sendable Closed room (λ v _ _ _ _. refl) (omega (arith, room-left))
-      ∙ rw (extended, shows, zero-add, put-zero, front, length-map)
-
   -- one reply for each piece
   pub one-each : length (repliesTo j) ≡ length (pieces j)
   unfolding repliesTo
@@ -76,3 +69,12 @@ module _ (j : Job) (f : Fair j) (room : List ℕ) (room-left : length (j .wanted
       let size : length (pieces j) ≡ length ps = length-map ps pieceOf in
       let cuts = cut-sends builder d (j .buffer) (f .ten) (f .few) in
       length-append more last ∙ omega (arith, size, cuts .some-part, length-replicate {A = Reply (Option Given)} k (is none))
+
+  -- sent through a closed reassembler
+  module _ (room : List ℕ) (room-left : length d ≤ length room) where
+    pub job-sent : run Closed room (pieces j) ≡ record { replies = repliesTo j; state = Closed; room = over d room }
+    unfolding repliesTo
+    job-sent =
+        let cuts = cut-sends builder d (j .buffer) (f .ten) (f .few) in
+        cuts .sent sendable Closed room (λ v _ _ _ _. refl) (omega (arith, room-left))
+        ∙ rw (extended, shows, zero-add, put-zero, front, length-map)

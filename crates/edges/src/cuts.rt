@@ -5,11 +5,12 @@ use splitter::NextPiece;
 use splitter::Pieces;
 use splitter::WriteNext;
 
-// How many pieces there are, how many data bytes the first and the last have, and how many bytes the longest takes.
+// How many pieces there are, how many data bytes the first, the last and all have, and how many bytes the longest takes.
 struct Cut {
     pieces: usize,
     first: usize,
     last: usize,
+    total: usize,
     longest: usize,
 }
 
@@ -17,6 +18,7 @@ fn print(label: &[u8], cut: Cut) {
     report::number(label, cut.pieces);
     report::number(b" first ", cut.first);
     report::number(b" last ", cut.last);
+    report::number(b" total ", cut.total);
     report::number(b" longest ", cut.longest);
 }
 
@@ -28,6 +30,9 @@ fn same(a: Cut, b: Cut) -> bool {
         return false;
     }
     if a.last != b.last {
+        return false;
+    }
+    if a.total != b.total {
         return false;
     }
     a.longest == b.longest
@@ -42,6 +47,16 @@ fn data_len(chain: Pieces, data: &[u8]) -> usize {
     }
 }
 
+// A sum, where both are at most 65,536.
+fn sum(a: usize, b: usize) -> usize {
+    if a <= 65536 {
+        if b <= 65536 {
+            return a + b;
+        }
+    }
+    0
+}
+
 // The pieces with one more, which has so many data bytes and takes so many bytes.
 fn with(cut: Cut, len: usize, bytes: usize) -> Cut {
     let first = if cut.pieces == 0 { len } else { cut.first };
@@ -50,26 +65,30 @@ fn with(cut: Cut, len: usize, bytes: usize) -> Cut {
     } else {
         cut.longest
     };
-    let pieces = if cut.pieces < 1000 {
-        cut.pieces + 1
-    } else {
-        1000
-    };
     Cut {
-        pieces,
+        pieces: sum(cut.pieces, 1),
         first,
         last: len,
+        total: sum(cut.total, len),
         longest,
     }
 }
 
-// Writes the pieces of a chain, one over the other. No case has a thousand.
+// How many data bytes a piece has, printed for the first eight.
+fn show(turn: usize, len: usize) {
+    if turn < 8 {
+        report::number(b" ", len);
+    }
+}
+
+// Writes the pieces of a chain, one over the other, and prints how many data bytes the first eight have. No case has a thousand.
 fn cut_all(start: Pieces, data: &[u8], buffer: &mut [u8; 261]) -> Cut {
     let mut chain = start;
     let mut cut = Cut {
         pieces: 0,
         first: 0,
         last: 0,
+        total: 0,
         longest: 0,
     };
     let mut turn = 0usize;
@@ -83,6 +102,7 @@ fn cut_all(start: Pieces, data: &[u8], buffer: &mut [u8; 261]) -> Cut {
                 return cut;
             }
             WriteNext::Written(written) => {
+                show(turn, len);
                 cut = with(cut, len, written.len);
                 let rest = written.rest;
                 chain = rest;
@@ -109,8 +129,9 @@ fn cuts(data: &[u8], le: u16, available: usize, buffer: &mut [u8; 261], expected
             report::verdict(false);
         }
         NewPieces::Pieces(chain) => {
+            io::write_all(1, b", found");
             let found = cut_all(chain, data, buffer);
-            print(b", found pieces ", found);
+            print(b" pieces ", found);
             report::verdict(same(expected, found));
         }
     }
@@ -132,11 +153,12 @@ fn refused(data: &[u8], le: u16, available: usize, expected: u8) {
     }
 }
 
-fn pieces_of(pieces: usize, first: usize, last: usize, longest: usize) -> Cut {
+fn pieces_of(pieces: usize, first: usize, last: usize, total: usize, longest: usize) -> Cut {
     Cut {
         pieces,
         first,
         last,
+        total,
         longest,
     }
 }
@@ -148,31 +170,37 @@ pub(crate) fn run() {
         256,
         261,
         &mut buffer,
-        pieces_of(1, 255, 255, 261),
+        pieces_of(1, 255, 255, 255, 261),
     );
     cuts(
         &[0xA5u8; 256],
         0,
         261,
         &mut buffer,
-        pieces_of(2, 254, 2, 259),
+        pieces_of(2, 254, 2, 256, 259),
     );
     cuts(
         &[0xA5u8; 256],
         5,
         261,
         &mut buffer,
-        pieces_of(2, 252, 4, 257),
+        pieces_of(2, 252, 4, 256, 257),
     );
     cuts(
         &[0xA5u8; 600],
         256,
         261,
         &mut buffer,
-        pieces_of(3, 252, 96, 257),
+        pieces_of(3, 252, 96, 600, 257),
     );
-    cuts(&[0xA5u8; 5], 1, 10, &mut buffer, pieces_of(2, 4, 1, 9));
-    cuts(&[0xA5u8; 300], 1, 10, &mut buffer, pieces_of(109, 1, 3, 9));
+    cuts(&[0xA5u8; 5], 1, 10, &mut buffer, pieces_of(2, 4, 1, 5, 9));
+    cuts(
+        &[0xA5u8; 300],
+        1,
+        10,
+        &mut buffer,
+        pieces_of(109, 1, 3, 300, 9),
+    );
     refused(&[0xA5u8; 300], 1, 9, 14);
     refused(&[0xA5u8; 65536], 0, 261, 13);
 }

@@ -1,14 +1,15 @@
 -- Whether a piece continues a chain, and whether it is the last. Assumes nothing.
 use mathlib.Core.Path.{_≡_, refl, sym, ap, _∙_}
 use mathlib.Core.Bool.{Bool, true, false, cond}
-use borrow.Author.Tests.{eq-eqb, ne-eqb}
+use borrow.Author.Tests.{eq-eqb, ne-eqb, eqb-true}
 use lib.Dec.{eqb}
+use Rattle.basis.proofs.Truth.{both}
 use Rattle.class.specs.Chain.{bit, chained, chainOf, notTheLast}
 use Rattle.class.specs.declared.Class.{Class}
 use Rattle.class.specs.declared.chain.Chain.{Chain}
 use Rattle.class.specs.declared.chain.Chain.the-variants.{LastOrOnly, NotTheLast}
 use Rattle.command.specs.declared.CommandView.{CommandView}
-use Rattle.reassembler.specs.Join.{sameClass, continuesOpen}
+use Rattle.reassembler.specs.Join.{sameClass, continuesOpen, SameHeader}
 use Rattle.reassembler.specs.declared.Held.{Held}
 
 -- classes by their bytes with the bit set
@@ -44,6 +45,27 @@ module _ (h : Held) (v : CommandView) where
 pub same-class-is : (c d : Class) → chained (c .cla) ≡ chained (d .cla) → sameClass c d ≡ true
 unfolding sameClass
 same-class-is c d e = eq-eqb (chained (c .cla)) (chained (d .cla)) e
+
+same-class-true : (c d : Class) → sameClass c d ≡ true → chained (c .cla) ≡ chained (d .cla)
+unfolding sameClass
+same-class-true c d e = eqb-true (chained (c .cla)) (chained (d .cla)) e
+
+-- a piece continues an open chain exactly where it has its header
+pub continues-same : (h : Held) (v : CommandView) → continuesOpen h v ≡ true → SameHeader h v
+unfolding continuesOpen
+continues-same h v e =
+    let c = both (sameClass (h .class) (v .class)) _ e in
+    let i = both (eqb (h .instruction) (v .instruction)) _ (c .1) in
+    let p = both (eqb (h .p1) (v .p1)) _ (i .1) in
+    record {
+      class = same-class-true (h .class) (v .class) (c .0);
+      instruction = eqb-true (h .instruction) (v .instruction) (i .0);
+      p1 = eqb-true (h .p1) (v .p1) (p .0);
+      p2 = eqb-true (h .p2) (v .p2) (p .1);
+    }
+
+pub same-continues : (h : Held) (v : CommandView) → SameHeader h v → continuesOpen h v ≡ true
+same-continues h v s = continues-is h v (same-class-is (h .class) (v .class) (s .class)) (s .instruction) (s .p1) (s .p2)
 
 -- the chaining bit, from what the class says of it
 told : (x : Bool) → notTheLast (cond x NotTheLast LastOrOnly) ≡ x

@@ -1,23 +1,27 @@
 -- Laws of a piece joined, for the floors above: one that is accepted, and one that is refused. Assumes nothing.
 use Prim.Native.Nat.{ℕ, _+_, _≤_}
 use mathlib.Core.Path.{_≡_, refl, sym, ap, _∙_}
-use mathlib.Core.Bool.{true}
+use mathlib.Core.Bool.{Bool, true, false}
 use mathlib.Core.List.{List}
 use mathlib.Core.Option.{none, some}
 use native.Mathlib.Omega.{arith}
 use borrow.Author.Tests.{eq-eqb, ne-eqb}
+use lib.Dec.{ltb}
 use lib.ListN.{length}
-use Rattle.basis.specs.Reply.{Reply, is, no}
+use Rattle.basis.specs.Reply.{Reply, is, no, status}
 use Rattle.basis.specs.Part.{put}
 use Rattle.basis.proofs.Reply.{no-is}
-use Rattle.class.specs.Chain.{bit}
+use Rattle.class.specs.Chain.{bit, chained}
 use Rattle.class.specs.declared.Reading.the-variants.{Crate}
 use Rattle.command.specs.Command.{parse, dataIn}
+use Rattle.command.specs.Owned.{fitting}
 use Rattle.command.specs.declared.CommandView.{CommandView}
 use Rattle.command.proofs.Rooms.{fitting-is}
-use Rattle.reassembler.specs.Join.{continues, heldBy, commandIn, lengthOf, heldOf, answerOf, stateOf, Outcome, takenIn, parsedIn, joinOf}
+use Rattle.reassembler.specs.Join.{continuesOpen, SameHeader, continues, heldBy, commandIn, lengthOf, heldOf, answerOf, stateOf, Outcome, refusedOf, takenIn, parsedIn, joinOf}
+use Rattle.reassembler.specs.declared.Held.{Held}
 use Rattle.reassembler.specs.declared.Reassembler.{Reassembler}
 use Rattle.reassembler.specs.declared.Reassembler.the-variants.{Closed, Open}
+use Rattle.reassembler.proofs.Headers.{continues-same, same-continues}
 
 -- a piece that is read, continues the chain and has room
 module _ (r : Reassembler) (room s : List ℕ) (v : CommandView) (d : List ℕ) (read : parse Crate s ≡ is v)
@@ -35,6 +39,39 @@ module _ (r : Reassembler) (room s : List ℕ) (v : CommandView) (d : List ℕ) 
       → joinOf r room s ≡ record { reply = is (some (commandIn r v (heldBy r + length d))); state = Closed; room = put (heldBy r) d room }
   unfolding answerOf stateOf
   step-last h = accepted ∙ rw (ne-eqb (bit (v .class .cla)) 1 (omega arith))
+
+-- 17: a piece that is read is refused with it exactly where a chain is open and it has not its header
+module _ (h : Held) (room s : List ℕ) (v : CommandView) (read : parse Crate s ≡ is v) where
+  other : (x : Bool) → continuesOpen h v ≡ x → (x ≡ true → ⊥) → joinOf (Open h) room s ≡ refusedOf (Open h) room 17
+  unfolding joinOf lengthOf
+  other true e f = absurd (f refl)
+  other false e f = rw (read, e)
+
+  pub other-header : (SameHeader h v → ⊥) → joinOf (Open h) room s ≡ refusedOf (Open h) room 17
+  other-header f = other (continuesOpen h v) refl (λ e. f (continues-same h v e))
+
+  not-17 : (held n m : ℕ) (x : Bool) → ltb m (held + n) ≡ x → fitting held n m ≡ no 17 → ⊥
+  unfolding fitting
+  not-17 held n m true q e = let k : _≡_ {A = ℕ} 18 17 = ap status (rw q at e) in omega arith
+  not-17 held n m false q e = no-is 17 (held + n) (sym (rw q at e))
+
+  taken-not : (d : List ℕ) (z : Reply ℕ) → (z ≡ no 17 → ⊥) → takenIn (Open h) room v d z .reply ≡ no 17 → ⊥
+  taken-not d (is n) f e = no-is 17 (answerOf (Open h) v n) (sym e)
+  taken-not d (no k) f e = f (ap no (ap status e))
+
+  pub same-header : SameHeader h v → joinOf (Open h) room s .reply ≡ no 17 → ⊥
+  unfolding joinOf lengthOf
+  same-header t e =
+      let d = dataIn s (is v) in
+      taken-not d (fitting (h .len) (length d) (length room)) (not-17 (h .len) (length d) (length room) _ refl)
+      (rw (read, same-continues h v t) at e)
+
+-- the record behind a piece that leaves the chain open has the header of the pieces before it
+pub header-kept : (h : Held) (v : CommandView) (n : ℕ) → SameHeader h v → bit (v .class .cla) ≡ 1
+    → heldOf v n ≡ record { class = record { cla = chained (h .class .cla) }; instruction = h .instruction; p1 = h .p1; p2 = h .p2; len = n }
+header-kept h v n s b =
+    let class : v .class .cla ≡ chained (h .class .cla) = omega (arith, s .class) in
+    λ i. record { class = record { cla = class i }; instruction = sym (s .instruction) i; p1 = sym (s .p1) i; p2 = sym (s .p2) i; len = n }
 
 -- a refusal changes neither record nor room
 module _ (r : Reassembler) (room : List ℕ) where

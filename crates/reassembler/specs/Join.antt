@@ -33,6 +33,13 @@ continuesOpen h v =
     cond (sameClass (h .class) (v .class))
     (cond (eqb (h .instruction) (v .instruction)) (cond (eqb (h .p1) (v .p1)) (eqb (h .p2) (v .p2)) false) false) false
 
+-- the same as a statement, for the theorem that says so
+pub record SameHeader (h : Held) (v : CommandView) : Type 0 where
+  pub class : chained (h .class .cla) ≡ chained (v .class .cla)
+  pub instruction : h .instruction ≡ v .instruction
+  pub p1 : h .p1 ≡ v .p1
+  pub p2 : h .p2 ≡ v .p2
+
 abbrev pub continues : Reassembler → CommandView → Bool
 continues Closed v = true
 continues (Open h) v = continuesOpen h v

@@ -4,3 +4,4 @@ pub mod Parts
 pub mod Number
 pub mod Chain
 pub mod Vectors
+pub mod Written

@@ -61,7 +61,7 @@ fn some_header(inputs: &mut Inputs) -> [u8; 4] {
 /// Any number, more often a small one or one around a boundary.
 fn some_len(inputs: &mut Inputs) -> usize {
     let most = match inputs.below(8) {
-        0 => return buffers().nth(inputs.below(40)).unwrap(),
+        0 => return buffers().nth(inputs.below(buffers().count())).unwrap(),
         1 => 65_546,
         2 => 5_000,
         3..=4 => 20,

@@ -105,7 +105,7 @@ fn of_length(len: usize, record: impl Fn(usize) -> Vec<u8>) -> Vec<u8> {
     bytes
 }
 
-/// The document's example, and the edges that issue 8 and document 01 name.
+/// Document 01's example, and inputs at the edges of its form, its commands and its records.
 pub fn named() -> Vec<Vec<u8>> {
     let example = b"\x00\x02\x00\x04\x00\xA4\x04\x00\x00\x05\xFF\xB0\x00\x00\x00\x00\x01\x00\x06\x5F\x24\x03\x26\x10\x09";
     let empty = input(&[], &[]);
@@ -123,6 +123,9 @@ pub fn named() -> Vec<Vec<u8>> {
         vec![0, 1, 0xFF, 0xFF, 0, 0],
         of_length(MOST, smallest),
         of_length(MOST + 1, smallest),
+        [of_length(MOST, smallest), vec![0]].concat(),
+        [of_length(MOST, smallest), vec![0; 10_000]].concat(),
+        only(&[0x5A, 0x00, 0x5F, 0x80, 0x00, 0x5A, 0x00]),
         input(&vec![vec![]; 14_998], &vec![vec![]; 15_000]),
         input(&vec![vec![0; 4]; 9_999], &[]),
         only(&[]),

@@ -1,4 +1,4 @@
-//! Lists of commands cut and joined again: document 01's demand 3. Each command is cut by the exported cutter. Between the pieces
+//! Lists of commands cut and joined again: demand 3 of the mission. Each command is cut by the exported cutter. Between the pieces
 //! stand others that are refused where they stand. Every command has to come back once, at its last piece, and nothing else.
 
 use std::ops::Range;
