@@ -27,7 +27,6 @@ use Rattle.exports_relay.specs.declared.State.{State}
 use Rattle.exports_relay.specs.declared.Turn.{Turn}
 use Rattle.exports_relay.specs.declared.Turn.the-variants as turn
 use Rattle.exports_relay.specs.declared.End.{End}
-use Rattle.exports_relay.specs.declared.End.the-variants as end
 
 -- a piece at the buffer's front that was joined: refused; more; the command
 module _ (x : State) (w : Written) (buffer room : List ℕ) (j : Joined) (after : List ℕ)
@@ -161,12 +160,15 @@ module _ (x : State) (d buffer room : List ℕ) (t : Turn) (b m : List ℕ) (g :
     ends : (z : End) (r : Ended) → e ≡ r → Ends r z b m → Ends e z b m
     ends z r q p = subst (λ v. Ends v z b m) (sym q) p
 
-    pub run-refused : (k : ℕ) → t ≡ turn.Refused k → Ends e (end.Refused k) b m
+    pub run-refused : (k : ℕ) → t ≡ turn.Refused k → Ends e (record { ended = k; state = x }) b m
     run-refused k q =
-        ends (end.Refused k) _ (f ∙ one-less (no k) n h (ap saidTurn q)) (record { says = refl; buffered = refl; roomed = refl })
+        ends (record { ended = k; state = x }) _ (f ∙ one-less (no k) n h (ap saidTurn q))
+        (record { number = refl; stands = refl; buffered = refl; roomed = refl })
 
-    pub run-over : t ≡ turn.Over → Ends e (end.Done x) b m
-    run-over q = ends (end.Done x) _ (f ∙ one-less (is none) n h (ap saidTurn q)) (record { says = refl; buffered = refl; roomed = refl })
+    pub run-over : t ≡ turn.Over → Ends e (record { ended = 0; state = x }) b m
+    run-over q =
+        ends (record { ended = 0; state = x }) _ (f ∙ one-less (is none) n h (ap saidTurn q))
+        (record { number = refl; stands = refl; buffered = refl; roomed = refl })
 
     pub run-next : (y : State) → t ≡ turn.Next y → e ≡ runIn (n - 1) y d b m
     run-next y q = f ∙ one-less (is (some y)) n h (ap saidTurn q)
@@ -176,8 +178,9 @@ pub entered : {x y : State} (d buffer room : List ℕ) → x ≡ y → runIn (le
 entered d buffer room e = sym (ap (λ (z : State). runIn (length d + 1) z d buffer room) e)
 
 -- no more pieces are joined
-pub run-done : (x : State) (d buffer room : List ℕ) (e : Ended) (n : ℕ) → n ≡ 0 → e ≡ runIn n x d buffer room → Ends e (end.Done x) buffer room
+pub run-done : (x : State) (d buffer room : List ℕ) (e : Ended) (n : ℕ) → n ≡ 0 → e ≡ runIn n x d buffer room
+    → Ends e (record { ended = 0; state = x }) buffer room
 unfolding runIn
 run-done x d buffer room e n h f =
-    subst (λ v. Ends v (end.Done x) buffer room) (sym (f ∙ ap (λ (k : ℕ). runIn k x d buffer room) h))
-    (record { says = refl; buffered = refl; roomed = refl })
+    subst (λ v. Ends v (record { ended = 0; state = x }) buffer room) (sym (f ∙ ap (λ (k : ℕ). runIn k x d buffer room) h))
+    (record { number = refl; stands = refl; buffered = refl; roomed = refl })

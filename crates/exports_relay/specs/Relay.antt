@@ -1,5 +1,6 @@
 -- A command cut and its pieces joined again, each as soon as it is written. Document 01, "Building and cutting", "Reassembly" and
--- "Numbers of refusal": the first refusal that is met ends the run, and buffer and room stay as the pieces before it left them.
+-- "Numbers of refusal": a refusal comes before anything is written, where no chain can be made or `out` is too short. Once it starts, a
+-- run is no refusal: a piece that is refused ends it early, and the number of that refusal is told.
 use Prim.Native.Nat.{ℕ, zero, suc, _+_}
 use mathlib.Core.Path.{_≡_}
 use mathlib.Core.Bool.{false}
@@ -19,7 +20,6 @@ use Rattle.exports_relay.specs.declared.State.{State}
 use Rattle.exports_relay.specs.declared.Turn.{Turn}
 use Rattle.exports_relay.specs.declared.Turn.the-variants as turn
 use Rattle.exports_relay.specs.declared.End.{End}
-use Rattle.exports_relay.specs.declared.End.the-variants as end
 
 -- what stands for a command where none was given back yet: zeros
 abbrev pub noCommand : Command
@@ -66,44 +66,50 @@ turnOf x d buffer room =
     writtenIn x (writeOf (x .chain) d (length buffer) 0)
     (bufferAfter (writeOf (x .chain) d (length buffer) 0) (pieceIn (nextOf (x .chain) d) d) buffer 0) room
 
--- the end of a run, with buffer and room after it
+-- the end of a run: the number of the refusal that ended it early, or 0; the state before the refused piece; buffer and room as the run
+-- left them, where a piece whose join was refused stands in the buffer
 pub record Ended : Type 0 where
-  pub reply : Reply State
+  pub ended : ℕ
+  pub state : State
   pub buffer : List ℕ
   pub room : List ℕ
 
 abbrev pub runBy : State → Reply (Option State) → List ℕ → List ℕ → (State → Ended) → Ended
 runBy x (is (some y)) buffer room further = further y
-runBy x (is none) buffer room further = record { reply = is x; buffer = buffer; room = room }
-runBy x (no k) buffer room further = record { reply = no k; buffer = buffer; room = room }
+runBy x (is none) buffer room further = record { ended = 0; state = x; buffer = buffer; room = room }
+runBy x (no k) buffer room further = record { ended = k; state = x; buffer = buffer; room = room }
 
 -- a run of at most n pieces
 unfoldable pub runIn : ℕ → State → List ℕ → List ℕ → List ℕ → Ended
-runIn zero x d buffer room = record { reply = is x; buffer = buffer; room = room }
+runIn zero x d buffer room = record { ended = 0; state = x; buffer = buffer; room = room }
 runIn (suc n) x d buffer room =
     runBy x (turnOf x d buffer room .reply) (turnOf x d buffer room .buffer) (turnOf x d buffer room .room)
     (λ y. runIn n y d (turnOf x d buffer room .buffer) (turnOf x d buffer room .room))
 
 -- a whole run: a command has no more pieces than its data have bytes, and one
-abbrev pub endedOf : Reply Pieces → List ℕ → List ℕ → List ℕ → Ended
-endedOf (is c) d buffer room = runIn (length d + 1) (startOf c) d buffer room
-endedOf (no k) d buffer room = record { reply = no k; buffer = buffer; room = room }
+abbrev pub endedOf : Reply Pieces → List ℕ → List ℕ → List ℕ → Reply Ended
+endedOf x d buffer room = then x (λ c. is (runIn (length d + 1) (startOf c) d buffer room))
 
--- how many pieces were joined and how many replies were "more"; of the command given back last: class, instruction, P1, P2, length of
--- the data, expected length, extended
-unfoldable pub stateNumbers : State → List ℕ
-stateNumbers x =
-    x .pieces ∷ x .more ∷ x .last .class .cla ∷ x .last .instruction ∷ x .last .p1 ∷ x .last .p2 ∷ x .last .len ∷ x .last .le
+-- buffer and room at exit: a refusal changes neither
+abbrev pub bufferOf : Reply Ended → List ℕ → List ℕ
+bufferOf (is e) buffer = e .buffer
+bufferOf (no k) buffer = buffer
+
+abbrev pub roomOf : Reply Ended → List ℕ → List ℕ
+roomOf (is e) room = e .room
+roomOf (no k) room = room
+
+-- the refusal k that ended the run early, or 0; how many pieces were joined and how many replies were "more"; of the command given back
+-- last: class, instruction, P1, P2, length of the data, expected length, extended
+unfoldable pub stateNumbers : ℕ → State → List ℕ
+stateNumbers k x =
+    k ∷ x .pieces ∷ x .more ∷ x .last .class .cla ∷ x .last .instruction ∷ x .last .p1 ∷ x .last .p2 ∷ x .last .len ∷ x .last .le
     ∷ flagOf (x .last .extended) ∷ []
 
 abbrev pub saidTurn : Turn → Reply (Option State)
 saidTurn (turn.Next x) = is (some x)
 saidTurn turn.Over = is none
 saidTurn (turn.Refused k) = no k
-
-abbrev pub saidEnd : End → Reply State
-saidEnd (end.Done x) = is x
-saidEnd (end.Refused k) = no k
 
 -- a turn and a run, with buffer and room at exit
 pub record Turns (t : Turned) (x : Turn) (buffer room : List ℕ) : Type 0 where
@@ -112,17 +118,19 @@ pub record Turns (t : Turned) (x : Turn) (buffer room : List ℕ) : Type 0 where
   pub roomed : room ≡ t .room
 
 pub record Ends (e : Ended) (x : End) (buffer room : List ℕ) : Type 0 where
-  pub says : saidEnd x ≡ e .reply
+  pub number : x .ended ≡ e .ended
+  pub stands : x .state ≡ e .state
   pub buffered : buffer ≡ e .buffer
   pub roomed : room ≡ e .room
 
--- the end told, where a slice was long enough
-pub record Tells (e : Ended) (out : List ℕ) (r : ℕ) (buffer room out′ : List ℕ) : Type 0 where
-  pub reply : r ≡ status (e .reply)
-  pub buffered : buffer ≡ e .buffer
-  pub roomed : room ≡ e .room
-  pub told : out′ ≡ written (then (e .reply) (λ x. is (stateNumbers x))) out
+-- the end told, or a refusal, which changes nothing
+pub record Tells (x : Reply Ended) (buffer room out : List ℕ) (r : ℕ) (buffer′ room′ out′ : List ℕ) : Type 0 where
+  pub reply : r ≡ status x
+  pub buffered : buffer′ ≡ bufferOf x buffer
+  pub roomed : room′ ≡ roomOf x room
+  pub told : out′ ≡ written (then x (λ e. is (stateNumbers (e .ended) (e .state)))) out
 
--- the promise of `gorvisclen_cut_and_join`, for the chain x: the slice for nine numbers is tested when the chain is made
+-- the promise of `gorvisclen_cut_and_join`, for the chain x: the slice for ten numbers is tested when the chain is made
 abbrev pub Relayed : Reply Pieces → List ℕ → List ℕ → List ℕ → List ℕ → ℕ → List ℕ → List ℕ → List ℕ → Type 0
-Relayed x d buffer room out r buffer′ room′ out′ = Tells (endedOf (fitting 9 (length out) x) d buffer room) out r buffer′ room′ out′
+Relayed x d buffer room out r buffer′ room′ out′ =
+    Tells (endedOf (fitting 10 (length out) x) d buffer room) buffer room out r buffer′ room′ out′

@@ -1,5 +1,6 @@
-// What a host program calls to have a command cut and its pieces joined again, in one call. It replies 0, or the number of a refusal
-// of document 01.
+// What a host program calls to have a command cut and its pieces joined again, in one call. It replies the number of a refusal of
+// document 01 where no chain can be made or `out` is too short, before anything is written. Otherwise it replies 0 and tells how the
+// run ended.
 ghost use mathlib.Core.Path.{_≡_};
 ghost use Prim.Native.Nat.{_+_, _≤_, _<_};
 ghost use lib.ListN.{length};
@@ -34,10 +35,10 @@ enum Turn {
     Refused(u8),
 }
 
-// The run at its end, or a refusal.
-enum End {
-    Done(State),
-    Refused(u8),
+// The run at its end: the number of the refusal that ended it early, or 0, and the run before the refused piece.
+struct End {
+    ended: u8,
+    state: State,
 }
 
 // What stands for a command where none was given back yet.
@@ -136,7 +137,7 @@ fn take_turn(state: State, data: &[u8], buffer: &mut [u8], room: &mut [u8]) -> T
     }
 }
 
-// A whole run: a command has no more pieces than its data have bytes, and one.
+// A whole run: a command has no more pieces than its data have bytes, and one. A piece whose join was refused stands in the buffer.
 fn run(chain: Pieces, data: &[u8], buffer: &mut [u8], room: &mut [u8]) -> End
     ensures { λ r. ⌜ Ends (runIn (length (now («data» .entry)) + 1) (startOf chain) (now («data» .entry)) (now (buffer .entry))
         (now (room .entry))) r
@@ -146,23 +147,24 @@ fn run(chain: Pieces, data: &[u8], buffer: &mut [u8], room: &mut [u8]) -> End
     let mut left = data.len() + 1;
     while left > 0 {
         match take_turn(state, data, buffer, room) {
-            Turn::Refused(k) => return End::Refused(k),
-            Turn::Over => return End::Done(state),
+            Turn::Refused(k) => return End { ended: k, state },
+            Turn::Over => return End { ended: 0, state },
             Turn::Next(next) => {
                 state = next;
                 left -= 1;
             }
         }
     }
-    End::Done(state)
+    End { ended: 0, state }
 }
 
-fn state_numbers(state: State) -> [u64; 9]
-    ensures { λ r. ⌜ r ≡ stateNumbers state ⌝ }
+fn state_numbers(ended: u8, state: State) -> [u64; 10]
+    ensures { λ r. ⌜ r ≡ stateNumbers ended state ⌝ }
 {
     let last = state.last;
     let class = last.class;
     [
+        ended as u64,
         state.pieces as u64,
         state.more as u64,
         class.into_inner() as u64,
@@ -192,18 +194,14 @@ pub extern "C" fn gorvisclen_cut_and_join(
         (now (buffer .entry)) (now (room .entry)) (now (out .entry)) r (now (buffer .exit)) (now (room .exit)) (now (out .exit)) ⌝ }
 {
     match Pieces::new_non_extended(class, instruction, p1, p2, data, le, available) {
-        NewPieces::Refused(k) => refuse(k, out.len(), 9),
+        NewPieces::Refused(k) => refuse(k, out.len(), 10),
         NewPieces::Pieces(chain) => {
-            if out.len() < 9 {
+            if out.len() < 10 {
                 return 16;
             }
-            match run(chain, data, buffer, room) {
-                End::Refused(k) => k,
-                End::Done(state) => {
-                    let numbers = state_numbers(state);
-                    tell(&numbers, out)
-                }
-            }
+            let end = run(chain, data, buffer, room);
+            let numbers = state_numbers(end.ended, end.state);
+            tell(&numbers, out)
         }
     }
 }

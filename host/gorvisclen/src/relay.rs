@@ -3,7 +3,7 @@
 use crate::{reply, Reply};
 
 /// How many numbers `cut_and_join` writes.
-pub const RELAY_NUMBERS: usize = 9;
+pub const RELAY_NUMBERS: usize = 10;
 
 // A slice passes as its pointer and its length.
 extern "C" {
@@ -26,14 +26,12 @@ extern "C" {
 }
 
 /// Cuts a command into pieces of at most `available` bytes, in the mode `SHORT_ONLY`, writes each at the front of `buffer` and joins it
-/// in `room` before the next one is written. Writes 9 numbers: how many pieces were joined and how many of the replies were "more"; then of
-/// the command given back last, or zeros: class byte, instruction byte, P1, P2, the length of its data, the expected length, and
-/// whether it is extended, 0 or 1.
-/// Refusals, the first one met: 3, 13, 14 of the chain; 16 where `out` is too short; then piece by piece 16 where it does not fit
-/// `buffer`, and 3 and 18 of the join.
-///
-/// **A refusal of a piece leaves `buffer` and `room` as the pieces before it did.** The piece itself changes neither, save that one
-/// whose join is refused is in `buffer`.
+/// in `room` before the next one is written. Writes 10 numbers. The first tells how the run ended: 0 where it came to its end, or the
+/// number of the refusal of a piece, with which it ended early: 16 where the piece does not fit `buffer`, and 3 and 18 of the join.
+/// Then come, of the pieces before the refused one, how many were joined and how many of the replies were "more"; then of the command
+/// given back last, or zeros: class byte, instruction byte, P1, P2, the length of its data, the expected length, and whether it is
+/// extended, 0 or 1. `buffer` and `room` are left as the run left them: a piece whose join was refused stands in `buffer`.
+/// Refusals: 3, 13, 14 of the chain; 16 where `out` is too short. They come before anything is written.
 pub fn cut_and_join(
     header: [u8; 4],
     le: u16,

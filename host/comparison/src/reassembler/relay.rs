@@ -3,7 +3,7 @@
 
 use std::ops::Range;
 
-use gorvisclen::{Record, Refused, BUFFER_LEN, RELAY_NUMBERS};
+use gorvisclen::{Record, BUFFER_LEN, RELAY_NUMBERS};
 use original::command::class::Class;
 use original::command::{ChainedCommandIterator, CommandBuilder};
 
@@ -13,6 +13,7 @@ use crate::lent::{bytes, hex, numbers, or_short, Outcome};
 use crate::tally::Tally;
 
 const DONE: &str = "cut and joined in one call, the pieces the Rust's (joined: held to a model)";
+const EARLY: &str = "cut and joined in one call, ended early (held to a model)";
 const REFUSED: &str = "cut and joined in one call, refused (held to a model)";
 
 /// A command, and the most bytes of a piece.
@@ -47,39 +48,46 @@ impl Asked<'_> {
         ))
     }
 
-    /// The run: how many pieces and how many "more", and the command given back last.
-    fn run(
-        &self,
+    /// The pieces of a run: how many and how many "more", and the command given back last are told behind the first number. Or the
+    /// refusal of a piece.
+    fn join_all(
         chain: ChainedCommandIterator,
-        buffer: &mut [u8],
-        room: &mut [u8],
-    ) -> Result<[u64; RELAY_NUMBERS], Refused> {
-        let mut told = [0; RELAY_NUMBERS];
+        (buffer, room): (&mut [u8], &mut [u8]),
+        told: &mut [u64; RELAY_NUMBERS],
+    ) -> Result<(), u8> {
         let mut record = Record::CLOSED;
         for piece in chain {
             let len = piece.required_len();
-            let mut part = buffer.get_mut(..len).ok_or(Refused(16))?;
+            let mut part = buffer.get_mut(..len).ok_or(16)?;
             piece.serialize_into(&mut part).unwrap();
-            let joined = model::join(record, &buffer[..len], room.len()).map_err(Refused)?;
+            let joined = model::join(record, &buffer[..len], room.len())?;
             room[joined.from..][..joined.data.len()].copy_from_slice(joined.data);
-            told[0] += 1;
+            told[1] += 1;
             match joined.given() {
-                true => told[2..].copy_from_slice(&joined.numbers[1..8]),
-                false => told[1] += 1,
+                true => told[3..].copy_from_slice(&joined.numbers[1..8]),
+                false => told[2] += 1,
             }
             record = joined.rest();
         }
-        Ok(told)
+        Ok(())
+    }
+
+    /// A run: the refusal that ended it early, or 0, and what its pieces came to before.
+    fn run(chain: ChainedCommandIterator, lent: (&mut [u8], &mut [u8])) -> [u64; RELAY_NUMBERS] {
+        let mut told = [0; RELAY_NUMBERS];
+        if let Err(number) = Self::join_all(chain, lent, &mut told) {
+            told[0] = number.into();
+        }
+        told
     }
 
     fn compare(&self, tally: &mut Tally, (buffer_len, room_len, len): Lengths) {
         let lent = || (bytes(buffer_len + room_len), numbers(len));
         let (mut to, mut out) = lent();
-        let told = or_short(self.chain(), len >= RELAY_NUMBERS).and_then(|chain| {
-            let (buffer, room) = to.part().split_at_mut(buffer_len);
-            self.run(chain, buffer, room)
+        let reply = or_short(self.chain(), len >= RELAY_NUMBERS).map(|chain| {
+            let told = Self::run(chain, to.part().split_at_mut(buffer_len));
+            out.part()[..RELAY_NUMBERS].copy_from_slice(&told);
         });
-        let reply = told.map(|told| out.part()[..RELAY_NUMBERS].copy_from_slice(&told));
         let theirs = Outcome::new(reply, out, to);
 
         let (mut to, mut out) = lent();
@@ -94,7 +102,8 @@ impl Asked<'_> {
         );
         let ours = Outcome::new(reply, out, to);
         let operation = match theirs.reply {
-            Ok(()) => DONE,
+            Ok(()) if theirs.out.at(0) == 0 => DONE,
+            Ok(()) => EARLY,
             Err(_) => REFUSED,
         };
         let input = || {
