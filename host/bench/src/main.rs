@@ -7,11 +7,17 @@
 //! for a command that is read, written or cut, a fifth for one that is joined and half as long again for a lookup, unless it runs
 //! emulated. A line with the limit `inf` has none.
 
+mod aid;
+mod asked;
 mod builder;
+mod class;
 mod command;
 mod lookup;
+mod owned;
 mod reassembler;
+mod rounds;
 mod splitter;
+mod tlv;
 
 use std::{env, process};
 
@@ -58,10 +64,15 @@ fn main() {
         "", "rust", "ours", "ratio", "limit"
     );
     let mut lines = Lines::default();
+    class::time(&mut lines);
+    aid::time(&mut lines);
     command::time(&mut lines);
+    owned::time(&mut lines);
     builder::time(&mut lines);
+    asked::time(&mut lines);
     splitter::time(&mut lines);
     reassembler::time(&mut lines);
+    tlv::time(&mut lines);
     lookup::time(&mut lines);
     if emulated {
         println!("emulated: x86-64 code on another machine; the times say nothing, and the ratios little");
