@@ -1,6 +1,6 @@
 -- Commands in short mode: how they are read and how long they are, which is all that cutting and chaining need of the builder.
 -- Assumes nothing.
-use Prim.Native.Nat.{ℕ, zero, suc, _+_, _≤_, _<_}
+use Prim.Native.Nat.{ℕ, zero, suc, _≤_, _<_}
 use mathlib.Core.Path.{_≡_, refl, subst, _∙_}
 use mathlib.Core.Bool.{false}
 use mathlib.Core.List.{List}
@@ -61,7 +61,3 @@ module _ (b : CommandBuilder) (m : b .mode ≡ Unsupported) where
     pub short-length : length (commandOf b d) ≡ shortLen b (length d)
     unfolding requiredLen shortLen
     short-length = length-command b d ∙ rw (short-lengths (length d) h .0, short-lengths (length d) h .1)
-
-    pub short-most : length (commandOf b d) ≤ 4 + 1 + length d + 1
-    unfolding shortLen
-    short-most = omega (arith, short-length, unless-zero-le (length d) 1, unless-zero-le (shown b) 1)

@@ -7,7 +7,6 @@ use native.Mathlib.Nat.{add-sub-cancel-left}
 use borrow.Author.Tests.{lt-ltb, le-ltb, ltb-false}
 use lib.Dec.{ltb}
 use lib.ListN.{length, getD, take, drop, length-drop}
-use lib.Seq.{length-take-le}
 use Rattle.basis.specs.Reply.{is, no}
 use Rattle.basis.proofs.Reply.{All, all-is, all-cond, all-then, all-every}
 use Rattle.basis.proofs.Part.{rest-is}
@@ -74,6 +73,3 @@ within r s v e = let m = measured r s v e in record { behind = omega arith; insi
 pub part : (r : Reading) (s : List ℕ) (v : CommandView) → parse r s ≡ is v
     → take (v .at + v .len - v .at) (drop (v .at) s) ≡ dataIn s (parse r s)
 part r s v e = rw (e, add-sub-cancel-left)
-
-pub part-length : (r : Reading) (s : List ℕ) (v : CommandView) → parse r s ≡ is v → length (dataIn s (parse r s)) ≡ v .len
-part-length r s v e = rw e (length-take-le (v .len) (drop (v .at) s) (simp length-drop (omega (arith, within r s v e .inside))))

@@ -126,9 +126,6 @@ module _ (b : CommandBuilder) (d : List ℕ) (m : ℕ) where
       → parts b d m ≡ record { builder = s .now; «data» = take (s .len) d } ∷ parts (s .later) (drop (s .len) d) m
   parts-split s h = parts-is ∙ rw h
 
-  pub parts-refused : (k : ℕ) → stepOf b (length d) m ≡ refused k → parts b d m ≡ []
-  parts-refused k h = parts-is ∙ rw h
-
 -- What holds of every cut with a buffer of ten bytes and at most 65,535 data bytes: it holds of a command that fits as it is,
 -- and of a command that is split where it holds of the rest.
 module _ (m : ℕ) (ten : 10 ≤ m) (P : CommandBuilder → List ℕ → List Part → Type 0)
@@ -153,8 +150,3 @@ module _ (m : ℕ) (ten : 10 ≤ m) (P : CommandBuilder → List ℕ → List Pa
 
   pub cut : (b : CommandBuilder) (d : List ℕ) → length d ≤ 65535 → P b d (parts b d m)
   cut b d few = cut-in (suc (length d)) b d (omega arith) few
-
--- so there is a part, and one behind every part that was split off
-pub never-empty : (b : CommandBuilder) (d : List ℕ) (m : ℕ) → 10 ≤ m → length d ≤ 65535 → 1 ≤ length (parts b d m)
-never-empty b d m ten few =
-    cut m ten (λ b d ps. 1 ≤ length ps) (λ b d h. omega arith) (λ b d r ps e g h f. omega arith) b d few

@@ -1,6 +1,6 @@
 -- A piece that a chain gives, written: a buffer as long as the piece is never refused, and has the piece's bytes at its front, all
 -- else as it was. Assumes nothing.
-use Prim.Native.Nat.{ℕ, _+_, _≤_}
+use Prim.Native.Nat.{ℕ, _≤_}
 use mathlib.Core.Path.{_≡_, ap, _∙_}
 use mathlib.Core.List.{List}
 use mathlib.Core.Option.{some}
@@ -9,7 +9,7 @@ use lib.ListN.{length, take, drop, length-take, length-drop}
 use Rattle.basis.specs.Reply.{is}
 use Rattle.basis.specs.Part.{over}
 use Rattle.basis.proofs.Part.{put-zero}
-use Rattle.builder.specs.Bytes.{fitting, requiredLen}
+use Rattle.builder.specs.Bytes.{fitting}
 use Rattle.builder.proofs.Fitting.{fits}
 use Rattle.builder.proofs.Lengths.{length-command}
 use Rattle.splitter.specs.Pieces.{nextOf, bytesOf, writeOf, pieceIn, bufferAfter}
