@@ -6,13 +6,13 @@ use borrow.Author.Tests.{lt-ltb, le-ltb, ltb-true, ltb-false}
 use lib.Dec.{ltb}
 use Rattle.basis.specs.Reply.{Reply, is, no}
 use Rattle.basis.proofs.Reply.{no-is}
-use Rattle.builder.specs.Builder.{within}
+use Rattle.builder.specs.Builder.{unlessLong}
 
 module _ {A : Type 0} (n : ℕ) where
-  pub too-many : (x : Reply A) → 65535 < n → within n x ≡ no 13
+  pub too-many : (x : Reply A) → 65535 < n → unlessLong n x ≡ no 13
   too-many x h = rw (lt-ltb 65535 n h)
 
-  pub few : (x : Reply A) → n ≤ 65535 → within n x ≡ x
+  pub few : (x : Reply A) → n ≤ 65535 → unlessLong n x ≡ x
   few x h = rw (le-ltb 65535 n h)
 
   -- a value tells that the data are few, and a refusal that they are not
@@ -20,12 +20,12 @@ module _ {A : Type 0} (n : ℕ) where
   value-by true x y h e = absurd (no-is 13 y e)
   value-by false x y h e = (ltb-false 65535 n h, cc)
 
-  pub value-few : (x y : A) → within n (is x) ≡ is y → (n ≤ 65535) × (x ≡ y)
+  pub value-few : (x y : A) → unlessLong n (is x) ≡ is y → (n ≤ 65535) × (x ≡ y)
   value-few x y e = value-by (ltb 65535 n) x y refl e
 
   refusal-by : (b : Bool) (x : A) (k : ℕ) → ltb 65535 n ≡ b → cond b (no 13) (is x) ≡ no k → (65535 < n) × (k ≡ 13)
   refusal-by true x k h e = (ltb-true 65535 n h, cc)
   refusal-by false x k h e = absurd (no-is k x (sym e))
 
-  pub refusal-many : (x : A) (k : ℕ) → within n (is x) ≡ no k → (65535 < n) × (k ≡ 13)
+  pub refusal-many : (x : A) (k : ℕ) → unlessLong n (is x) ≡ no k → (65535 < n) × (k ≡ 13)
   refusal-many x k e = refusal-by (ltb 65535 n) x k refl e

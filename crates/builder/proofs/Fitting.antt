@@ -5,20 +5,20 @@ use mathlib.Core.List.{List}
 use borrow.Author.Tests.{lt-ltb, le-ltb}
 use lib.ListN.{length}
 use Rattle.basis.specs.Reply.{is, no}
-use Rattle.builder.specs.Bytes.{requiredLen, fitting}
+use Rattle.builder.specs.Bytes.{requiredLen, serializeOf}
 use Rattle.builder.specs.declared.CommandBuilder.{CommandBuilder}
 use Rattle.builder.proofs.Lengths.{length-command}
 
 module _ (b : CommandBuilder) (d : List ℕ) (m at : ℕ) where
-  pub data-too-long : 65535 < length d → fitting b d m at ≡ no 13
-  unfolding fitting
+  pub data-too-long : 65535 < length d → serializeOf b d m at ≡ no 13
+  unfolding serializeOf
   data-too-long h = rw (lt-ltb _ _ h)
 
   module _ (h : length d ≤ 65535) where
-    pub buffer-too-short : m < at + requiredLen b (length d) → fitting b d m at ≡ no 16
-    unfolding fitting
+    pub buffer-too-short : m < at + requiredLen b (length d) → serializeOf b d m at ≡ no 16
+    unfolding serializeOf
     buffer-too-short g = rw (le-ltb _ _ h, length-command b d, lt-ltb _ _ g)
 
-    pub fits : at + requiredLen b (length d) ≤ m → fitting b d m at ≡ is (requiredLen b (length d))
-    unfolding fitting
+    pub fits : at + requiredLen b (length d) ≤ m → serializeOf b d m at ≡ is (requiredLen b (length d))
+    unfolding serializeOf
     fits g = rw (le-ltb _ _ h, length-command b d, le-ltb _ _ g)

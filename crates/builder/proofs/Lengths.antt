@@ -7,7 +7,7 @@ use native.Mathlib.Omega.{arith}
 use lib.Dec.{eqb}
 use lib.ListN.{length, length-append}
 use Rattle.basis.specs.Number.{be}
-use Rattle.builder.specs.Bytes.{wide, lcSize, leSize, field, shown, lcLen, leLen, commandOf, requiredLen}
+use Rattle.builder.specs.Bytes.{wide, lcSize, leSize, field, leShown, lcLen, leLen, commandOf, requiredLen}
 use Rattle.builder.specs.declared.CommandBuilder.{CommandBuilder}
 
 choice-le : (b : Bool) (k m n : ℕ) → m ≤ k → n ≤ k → cond b m n ≤ k
@@ -18,13 +18,13 @@ choice-le false k m n h g = g
 module _ (b : CommandBuilder) (n : ℕ) where
   pub lc-small : lcLen b n ≤ 3
   unfolding lcLen lcSize
-  lc-small = choice-le (eqb n 0) 3 0 _ (omega arith) (choice-le (wide (b .mode) n (shown b)) 3 3 1 (omega arith) (omega arith))
+  lc-small = choice-le (eqb n 0) 3 0 _ (omega arith) (choice-le (wide (b .mode) n (leShown b)) 3 3 1 (omega arith) (omega arith))
 
   pub le-small : leLen b n ≤ 3
   unfolding leLen leSize
   le-small =
-      choice-le (eqb (shown b) 0) 3 0 _ (omega arith)
-      (choice-le (wide (b .mode) n (shown b)) 3 _ 1 (choice-le (eqb n 0) 3 3 2 (omega arith) (omega arith)) (omega arith))
+      choice-le (eqb (leShown b) 0) 3 0 _ (omega arith)
+      (choice-le (wide (b .mode) n (leShown b)) 3 _ 1 (choice-le (eqb n 0) 3 3 2 (omega arith) (omega arith)) (omega arith))
 
 pub length-field : (k n : ℕ) → k ≤ 3 → length (field k n) ≡ k
 unfolding field be
@@ -37,7 +37,7 @@ pub length-command : (b : CommandBuilder) (d : List ℕ) → length (commandOf b
 unfolding commandOf requiredLen
 length-command b d =
     let n = length d in
-    simp (length-append, length-field (lcLen b n) n (lc-small b n), length-field (leLen b n) (shown b) (le-small b n)) (omega arith)
+    simp (length-append, length-field (lcLen b n) n (lc-small b n), length-field (leLen b n) (leShown b) (le-small b n)) (omega arith)
 
 pub required-is : (b : CommandBuilder) (n : ℕ) → requiredLen b n ≡ 4 + lcLen b n + n + leLen b n
 unfolding requiredLen

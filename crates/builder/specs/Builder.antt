@@ -15,13 +15,13 @@ use Rattle.builder.specs.declared.Built.{Built}
 use Rattle.builder.specs.declared.Built.the-variants.{Builder, Refused}
 
 -- what follows for n data bytes: 13 where they are above 65,535
-abbrev pub within : {A : Type 0} → ℕ → Reply A → Reply A
-within n x = cond (ltb 65535 n) (no 13) x
+abbrev pub unlessLong : {A : Type 0} → ℕ → Reply A → Reply A
+unlessLong n x = cond (ltb 65535 n) (no 13) x
 
 -- a builder for n data bytes: the class byte is tested first, then the data
 unfoldable pub newOf : ℕ → ℕ → ℕ → ℕ → ℕ → ExpectedLen → ExtendedLen → Reply CommandBuilder
 newOf c i p q n e m =
-    then (fromByte c) (λ k. within n (is (record { class = k; instruction = i; p1 = p; p2 = q; le = e; mode = m })))
+    then (fromByte c) (λ k. unlessLong n (is (record { class = k; instruction = i; p1 = p; p2 = q; le = e; mode = m })))
 
 -- a builder in another mode
 abbrev pub inMode : CommandBuilder → ExtendedLen → CommandBuilder

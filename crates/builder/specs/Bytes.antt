@@ -8,7 +8,7 @@ use lib.ListN.{length}
 use Rattle.basis.specs.Reply.{Reply, is, no}
 use Rattle.basis.specs.Part.{put}
 use Rattle.basis.specs.Number.{be}
-use Rattle.builder.specs.Builder.{within}
+use Rattle.builder.specs.Builder.{unlessLong}
 use Rattle.builder.specs.declared.ExpectedLen.{ExpectedLen}
 use Rattle.builder.specs.declared.ExpectedLen.the-variants.{Ne, Max}
 use Rattle.builder.specs.declared.ExtendedLen.{ExtendedLen}
@@ -54,18 +54,18 @@ field (suc (suc zero)) n = be 2 n
 field (suc (suc (suc k))) n = 0 ∷ be 2 n
 
 -- for a builder and n data bytes: the Le that is shown, and the bytes of Lc and Le
-unfoldable pub shown : CommandBuilder → ℕ
-shown b = lowered (b .mode) (asked (b .le))
+unfoldable pub leShown : CommandBuilder → ℕ
+leShown b = lowered (b .mode) (asked (b .le))
 
 unfoldable pub lcLen : CommandBuilder → ℕ → ℕ
-lcLen b n = lcSize (wide (b .mode) n (shown b)) n
+lcLen b n = lcSize (wide (b .mode) n (leShown b)) n
 
 unfoldable pub leLen : CommandBuilder → ℕ → ℕ
-leLen b n = leSize (wide (b .mode) n (shown b)) n (shown b)
+leLen b n = leSize (wide (b .mode) n (leShown b)) n (leShown b)
 
 -- all three, as the code hands them on
 abbrev pub fieldsOf : CommandBuilder → ℕ → Fields
-fieldsOf b n = record { lc = lcLen b n; le = leLen b n; shown = shown b }
+fieldsOf b n = record { lc = lcLen b n; le = leLen b n; shown = leShown b }
 
 abbrev pub header : CommandBuilder → List ℕ
 header b = b .class .cla ∷ b .instruction ∷ b .p1 ∷ b .p2 ∷ []
@@ -89,9 +89,9 @@ pub record Fits (z : Fields) (n m at : ℕ) : Type 0 where
   pub room : at + (4 + z .lc + n + z .le) ≤ m
 
 -- how many bytes are written from a place of a buffer of m bytes
-unfoldable pub fitting : CommandBuilder → List ℕ → ℕ → ℕ → Reply ℕ
-fitting b d m at =
-    within (length d) (cond (ltb m (at + length (commandOf b d))) (no 16) (is (length (commandOf b d))))
+unfoldable pub serializeOf : CommandBuilder → List ℕ → ℕ → ℕ → Reply ℕ
+serializeOf b d m at =
+    unlessLong (length d) (cond (ltb m (at + length (commandOf b d))) (no 16) (is (length (commandOf b d))))
 
 -- the buffer after it: bytes before and behind stay, and a refusal changes nothing
 abbrev pub bufferAfter : Reply ℕ → CommandBuilder → List ℕ → List ℕ → ℕ → List ℕ
@@ -104,9 +104,9 @@ said (Refused k) = no k
 
 -- the promise of `required_len`
 abbrev pub required-len-is : CommandBuilder → List ℕ → Length → Type 0
-required-len-is b d x = said x ≡ within (length d) (is (requiredLen b (length d)))
+required-len-is b d x = said x ≡ unlessLong (length d) (is (requiredLen b (length d)))
 
 -- the promise of `serialize_into`
 pub record serialize-into-is (b : CommandBuilder) (d before : List ℕ) (at : ℕ) (x : Length) (after : List ℕ) : Type 0 where
-  pub reply : said x ≡ fitting b d (length before) at
-  pub buffer : after ≡ bufferAfter (fitting b d (length before) at) b d before at
+  pub reply : said x ≡ serializeOf b d (length before) at
+  pub buffer : after ≡ bufferAfter (serializeOf b d (length before) at) b d before at

@@ -8,7 +8,7 @@ use lib.Dec.{eqb}
 use lib.ListN.{length}
 use Rattle.basis.specs.Reply.{Reply, is, no}
 use Rattle.command.specs.declared.CommandView.{CommandView}
-use Rattle.builder.specs.Builder.{within}
+use Rattle.builder.specs.Builder.{unlessLong}
 use Rattle.builder.specs.declared.ExpectedLen.{ExpectedLen}
 use Rattle.builder.specs.declared.ExpectedLen.the-variants.{Ne, Max}
 use Rattle.builder.specs.declared.CommandBuilder.{CommandBuilder}
@@ -45,4 +45,4 @@ said (Refused k) = no k
 
 -- the promise of `eq`
 abbrev pub eq-is : CommandBuilder → List ℕ → CommandView → List ℕ → Comparison → Type 0
-eq-is b d v f x = said x ≡ within (length d) (is (equalTo b d v f))
+eq-is b d v f x = said x ≡ unlessLong (length d) (is (equalTo b d v f))

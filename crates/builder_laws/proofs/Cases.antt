@@ -9,7 +9,7 @@ use borrow.Author.Tests.{le-leb, lt-leb, lt-ltb, le-ltb, ne-eqb}
 use lib.Dec.{eqb}
 use lib.ListN.{length, length-append}
 use Rattle.basis.specs.Number.{be}
-use Rattle.builder.specs.Bytes.{isForced, wide, lcSize, leSize, field, shown, lcLen, leLen, header, commandOf, requiredLen}
+use Rattle.builder.specs.Bytes.{isForced, wide, lcSize, leSize, field, leShown, lcLen, leLen, header, commandOf, requiredLen}
 use Rattle.builder.specs.declared.ExtendedLen.{ExtendedLen}
 use Rattle.builder.specs.declared.ExtendedLen.the-variants.{Unsupported, Supported, Forced}
 use Rattle.builder.specs.declared.CommandBuilder.{CommandBuilder}
@@ -97,12 +97,12 @@ module _ (c i p q : ℕ) where
   laid false (x ∷ d) (suc e) f o l = rw (some (length d), some e, lc-one (suc (length d)) (f refl .0), le-one (suc e) (f refl .1))
 
 -- of every builder, with data of at most 65,535 bytes and an Le of at most 65,536
-pub command-by-case : (b : CommandBuilder) (d : List ℕ) → length d ≤ 65535 → shown b ≤ 65536
-    → commandOf b d ≡ caseBytes (caseFor (b .mode) (length d) (shown b)) (header b) d (shown b)
+pub command-by-case : (b : CommandBuilder) (d : List ℕ) → length d ≤ 65535 → leShown b ≤ 65536
+    → commandOf b d ≡ caseBytes (caseFor (b .mode) (length d) (leShown b)) (header b) d (leShown b)
 unfolding commandOf lcLen leLen
 command-by-case b d h g =
     let n = length d in
-    let e = shown b in
+    let e = leShown b in
     rw (picked (b .mode) n e)
     (laid (b .class .cla) (b .instruction) (b .p1) (b .p2) (wide (b .mode) n e) d e (narrow (b .mode) n e) h g)
 
@@ -126,6 +126,6 @@ counted false (suc n) zero = rw (some n) (omega arith)
 counted true (suc n) (suc e) = rw (some n, some e) (omega arith)
 counted false (suc n) (suc e) = rw (some n, some e) (omega arith)
 
-pub length-by-case : (b : CommandBuilder) (n : ℕ) → requiredLen b n ≡ caseLength (caseFor (b .mode) n (shown b)) n
+pub length-by-case : (b : CommandBuilder) (n : ℕ) → requiredLen b n ≡ caseLength (caseFor (b .mode) n (leShown b)) n
 unfolding requiredLen lcLen leLen
-length-by-case b n = rw (picked (b .mode) n (shown b)) (counted (wide (b .mode) n (shown b)) n (shown b))
+length-by-case b n = rw (picked (b .mode) n (leShown b)) (counted (wide (b .mode) n (leShown b)) n (leShown b))

@@ -9,7 +9,7 @@ use borrow.Author.Tests.{eq-eqb, ne-eqb}
 use lib.Dec.{eqb}
 use lib.ListN.{length}
 use Rattle.command.proofs.Cases.{headed}
-use Rattle.builder.specs.Bytes.{lowered, shown, lcLen}
+use Rattle.builder.specs.Bytes.{lowered, leShown, lcLen}
 use Rattle.builder.specs.Compare.{compared, sameHeader, equalTo}
 use Rattle.builder.specs.declared.ExpectedLen.the-variants.{Ne, Max}
 use Rattle.builder.specs.declared.ExtendedLen.{ExtendedLen}
@@ -43,8 +43,8 @@ module _ (b : CommandBuilder) (d : List ℕ) where
         h,
       ) (as-it-is r)
 
-  own-by-le : (r : Bool) → eqb (compared (b .le)) (shown b) ≡ r → equalTo b d (viewFor b (length d)) d ≡ r
-  own-by-le r h = by-le (4 + lcLen b (length d)) (length d) (shown b) (extendedFor b (length d)) r h
+  own-by-le : (r : Bool) → eqb (compared (b .le)) (leShown b) ≡ r → equalTo b d (viewFor b (length d)) d ≡ r
+  own-by-le r h = by-le (4 + lcLen b (length d)) (length d) (leShown b) (extendedFor b (length d)) r h
 
   -- Max is equal to 65,535
   pub max-equal : (at n : ℕ) (x : Bool) → b .le ≡ Max
@@ -60,5 +60,5 @@ module _ (b : CommandBuilder) (d : List ℕ) where
   lowered-differs n e m h = own-by-le false (rw (le-read b .number-lowered n e m h, e) (ne-eqb n 256 (omega arith)))
 
   pub max-differs : b .le ≡ Max → equalTo b d (viewFor b (length d)) d ≡ false
-  unfolding shown
+  unfolding leShown
   max-differs e = own-by-le false (rw e (max-lowered (b .mode)))

@@ -10,7 +10,7 @@ use lib.ListN.{length}
 use Rattle.class.specs.declared.Reading.{Reading}
 use Rattle.command.specs.declared.CommandView.{CommandView}
 use Rattle.command.proofs.Cases.{ReadAs}
-use Rattle.builder.specs.Bytes.{wide, lcSize, leSize, shown, lcLen, leLen, commandOf, requiredLen}
+use Rattle.builder.specs.Bytes.{wide, lcSize, leSize, leShown, lcLen, leLen, commandOf, requiredLen}
 use Rattle.builder.specs.declared.ExtendedLen.the-variants.{Unsupported}
 use Rattle.builder.specs.declared.CommandBuilder.{CommandBuilder}
 use Rattle.builder.proofs.Lengths.{length-command}
@@ -33,17 +33,17 @@ unless-zero-le zero k = rw (unless-zero-none 0 k refl) (omega arith)
 unless-zero-le (suc n) k = rw (unless-zero-some (suc n) k (omega arith)) (omega arith)
 
 module _ (b : CommandBuilder) (m : b .mode ≡ Unsupported) where
-  narrow : (n : ℕ) → n ≤ 255 → wide (b .mode) n (shown b) ≡ false
+  narrow : (n : ℕ) → n ≤ 255 → wide (b .mode) n (leShown b) ≡ false
   unfolding wide
-  narrow n h = rw (le-ltb 255 n h, le-ltb 256 (shown b) (shown-short b m), m)
+  narrow n h = rw (le-ltb 255 n h, le-ltb 256 (leShown b) (shown-short b m), m)
 
   -- up to 255 data bytes Lc and Le have a byte each
-  pub short-lengths : (n : ℕ) → n ≤ 255 → (lcLen b n ≡ unlessZero n 1) × (leLen b n ≡ unlessZero (shown b) 1)
+  pub short-lengths : (n : ℕ) → n ≤ 255 → (lcLen b n ≡ unlessZero n 1) × (leLen b n ≡ unlessZero (leShown b) 1)
   unfolding lcLen leLen lcSize leSize unlessZero
   short-lengths n h = (rw (narrow n h), rw (narrow n h))
 
   -- above 255 they are counted as three and two
-  pub short-long-length : (n : ℕ) → 255 < n → (lcLen b n ≡ 3) × (leLen b n ≡ unlessZero (shown b) 2)
+  pub short-long-length : (n : ℕ) → 255 < n → (lcLen b n ≡ 3) × (leLen b n ≡ unlessZero (leShown b) 2)
   unfolding lcLen leLen lcSize leSize unlessZero wide
   short-long-length n h = (rw (lt-ltb 255 n h, ne-eqb n 0 (omega arith)), rw (lt-ltb 255 n h, ne-eqb n 0 (omega arith)))
 

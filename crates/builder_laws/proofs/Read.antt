@@ -14,7 +14,7 @@ use Rattle.command.specs.Body.{orMost}
 use Rattle.command.specs.Command.{parse}
 use Rattle.command.proofs.Cases.{ReadAs, headed, class-ff, no-fields}
 use Rattle.command.proofs.Cases.{short-le, short-data, short-both, extended-le, extended-data, extended-both}
-use Rattle.builder.specs.Bytes.{isForced, wide, lcSize, leSize, field, shown, lcLen, leLen, commandOf}
+use Rattle.builder.specs.Bytes.{isForced, wide, lcSize, leSize, field, leShown, lcLen, leLen, commandOf}
 use Rattle.builder.specs.declared.ExtendedLen.{ExtendedLen}
 use Rattle.builder.specs.declared.CommandBuilder.{CommandBuilder}
 use Rattle.builder_laws.specs.Read.{Expected, hasLengths, extendedFor, viewFor}
@@ -122,11 +122,11 @@ module _ (r : Reading) (c i p q : ℕ) (k : c ≡ 0xFF → ⊥) (e : ℕ) where
 
 module _ (r : Reading) (b : CommandBuilder) (d : List ℕ) where
   -- of the expected length, the one that is shown decides
-  pub shown-read : (b .class .cla ≡ 0xFF → ⊥) → shown b ≤ 65536 → length d ≤ 65535
+  pub shown-read : (b .class .cla ≡ 0xFF → ⊥) → leShown b ≤ 65536 → length d ≤ 65535
       → ReadAs r (commandOf b d) (viewFor b (length d)) d
   unfolding commandOf lcLen leLen lcSize leSize hasLengths extendedFor
   shown-read k h o =
-      let e = shown b in
+      let e = leShown b in
       let n = length d in
       let w = wide (b .mode) n e in
       back r (b .class .cla) (b .instruction) (b .p1) (b .p2) k e (eqb n 0) (eqb e 0) w d refl refl (narrow (b .mode) n e) o h

@@ -7,7 +7,7 @@ use native.Mathlib.Decide.{decLe}
 use native.Mathlib.Omega.{arith}
 use borrow.Author.Tests.{le-leb, lt-leb, lt-ltb, le-ltb, eq-eqb, ne-eqb}
 use lib.Dec.{ltb}
-use Rattle.builder.specs.Bytes.{asked, lowered, isForced, wide, shown}
+use Rattle.builder.specs.Bytes.{asked, lowered, isForced, wide, leShown}
 use Rattle.builder.specs.declared.ExpectedLen.{ExpectedLen}
 use Rattle.builder.specs.declared.ExpectedLen.the-variants.{Ne, Max}
 use Rattle.builder.specs.declared.ExtendedLen.{ExtendedLen}
@@ -40,7 +40,7 @@ asked-le Max h = omega arith
 module _ (b : CommandBuilder) where
   -- by the expected length and the mode
   pub le-read : LeRead b
-  unfolding shown
+  unfolding leShown
   le-read =
       let m = b .mode in
       record {
@@ -51,12 +51,12 @@ module _ (b : CommandBuilder) where
       }
 
   -- in every mode, and in short mode
-  pub shown-le : Expected (b .le) → shown b ≤ 65536
-  unfolding shown
+  pub shown-le : Expected (b .le) → leShown b ≤ 65536
+  unfolding leShown
   shown-le h = omega (arith, lowered-le (b .mode) (asked (b .le)), asked-le (b .le) h)
 
-  pub shown-short : b .mode ≡ Unsupported → shown b ≤ 256
-  unfolding shown
+  pub shown-short : b .mode ≡ Unsupported → leShown b ≤ 256
+  unfolding leShown
   shown-short m =
       elim (decLe (asked (b .le)) 256) [
         | yes h ↦ omega (arith, lowered-le (b .mode) (asked (b .le)))
@@ -86,7 +86,7 @@ either false = refl
 pub extended-read : (b : CommandBuilder) (n : ℕ) → ExtendedRead b n
 unfolding extendedFor wide
 extended-read b n =
-    let e = shown b in
+    let e = leShown b in
     let long = either (ltb 255 n) in
     record {
       data-long = λ h. rw (lt-ltb 255 n h, some n e (omega arith));

@@ -13,7 +13,7 @@ use Rattle.basis.specs.Part.{put}
 use Rattle.basis.proofs.Reply.{All, all-is, all-cond}
 use Rattle.class.specs.declared.Reading.{Reading}
 use Rattle.command.proofs.Cases.{ReadAs}
-use Rattle.builder.specs.Bytes.{shown, header, commandOf, fitting, said, serialize-into-is}
+use Rattle.builder.specs.Bytes.{leShown, header, commandOf, serializeOf, said, serialize-into-is}
 use Rattle.builder.specs.declared.CommandBuilder.{CommandBuilder}
 use Rattle.builder.specs.declared.sizes.Length.{Length}
 use Rattle.builder_laws.specs.Cases.{caseBytes, caseFor}
@@ -26,8 +26,8 @@ use Rattle.builder_laws.proofs.Read.{built-read}
 abbrev Fits : CommandBuilder → List ℕ → ℕ → ℕ → ℕ → Type 0
 Fits b d m at n = (length d ≤ 65535) × (at + length (commandOf b d) ≤ m) × (n ≡ length (commandOf b d))
 
-fitted : (b : CommandBuilder) (d : List ℕ) (m at : ℕ) → All (Fits b d m at) (fitting b d m at)
-unfolding fitting
+fitted : (b : CommandBuilder) (d : List ℕ) (m at : ℕ) → All (Fits b d m at) (serializeOf b d m at)
+unfolding serializeOf
 fitted b d m at =
     all-cond (Fits b d m at) (ltb 65535 (length d)) _ _ (λ _. tt) (λ f.
     all-cond (Fits b d m at) (ltb m (at + length (commandOf b d))) _ _ (λ _. tt) (λ g.
@@ -37,7 +37,7 @@ module _ (b : CommandBuilder) (d before : List ℕ) (at n : ℕ) (x : Length) (a
     (w : serialize-into-is b d before at x after) (s : said x ≡ is n) where
   fits : Fits b d (length before) at n
   fits =
-      all-is (Fits b d (length before) at) (fitting b d (length before) at) n (fitted b d (length before) at) (sym (w .reply) ∙ s)
+      all-is (Fits b d (length before) at) (serializeOf b d (length before) at) n (fitted b d (length before) at) (sym (w .reply) ∙ s)
 
   -- the command stands there
   pub stands : take n (drop at after) ≡ commandOf b d
@@ -50,7 +50,7 @@ module _ (b : CommandBuilder) (d before : List ℕ) (at n : ℕ) (x : Length) (a
 
   -- which is the one of its case
   pub written-by-case : Expected (b .le)
-      → take n (drop at after) ≡ caseBytes (caseFor (b .mode) (length d) (shown b)) (header b) d (shown b)
+      → take n (drop at after) ≡ caseBytes (caseFor (b .mode) (length d) (leShown b)) (header b) d (leShown b)
   written-by-case h = stands ∙ command-by-case b d (fits .0) (shown-le b h)
 
   pub written-read : (r : Reading) → (b .class .cla ≡ 0xFF → ⊥) → Expected (b .le)

@@ -3,7 +3,7 @@ use Prim.Native.Nat.{ℕ, _+_}
 use mathlib.Core.Bool.{false, cond}
 use lib.Dec.{eqb}
 use Rattle.command.specs.declared.CommandView.{CommandView}
-use Rattle.builder.specs.Bytes.{shown}
+use Rattle.builder.specs.Bytes.{leShown}
 use Rattle.builder.specs.declared.CommandBuilder.{CommandBuilder}
 
 -- a length field of k bytes, which is omitted for 0
@@ -20,10 +20,10 @@ shortView b n =
       p2 = b .p2;
       at = 4 + unlessZero n 1;
       len = n;
-      le = shown b;
+      le = leShown b;
       extended = false;
     }
 
 -- its length
 unfoldable pub shortLen : CommandBuilder → ℕ → ℕ
-shortLen b n = 4 + unlessZero n 1 + n + unlessZero (shown b) 1
+shortLen b n = 4 + unlessZero n 1 + n + unlessZero (leShown b) 1

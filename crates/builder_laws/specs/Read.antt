@@ -5,7 +5,7 @@ use mathlib.Core.Path.{_≡_}
 use mathlib.Core.Bool.{Bool, true, false, cond}
 use lib.Dec.{eqb}
 use Rattle.command.specs.declared.CommandView.{CommandView}
-use Rattle.builder.specs.Bytes.{wide, shown, lcLen}
+use Rattle.builder.specs.Bytes.{wide, leShown, lcLen}
 use Rattle.builder.specs.declared.ExpectedLen.{ExpectedLen}
 use Rattle.builder.specs.declared.ExpectedLen.the-variants.{Ne, Max}
 use Rattle.builder.specs.declared.ExtendedLen.the-variants.{Unsupported, Forced}
@@ -22,7 +22,7 @@ hasLengths n e = cond (eqb n 0) (cond (eqb e 0) false true) true
 
 -- a builder's command with n data bytes has extended lengths where they are wide, and it has any
 unfoldable pub extendedFor : CommandBuilder → ℕ → Bool
-extendedFor b n = cond (wide (b .mode) n (shown b)) (hasLengths n (shown b)) false
+extendedFor b n = cond (wide (b .mode) n (leShown b)) (hasLengths n (leShown b)) false
 
 -- what it is read as: the builder's header and expected length, and n data bytes behind the header and Lc
 abbrev pub viewFor : CommandBuilder → ℕ → CommandView
@@ -34,20 +34,20 @@ viewFor b n =
       p2 = b .p2;
       at = 4 + lcLen b n;
       len = n;
-      le = shown b;
+      le = leShown b;
       extended = extendedFor b n;
     }
 
 -- which expected length that is
 pub record LeRead (b : CommandBuilder) : Type 0 where
-  pub number : (n : ℕ) → b .le ≡ Ne n → (b .mode ≡ Unsupported → n ≤ 256) → shown b ≡ n
-  pub number-lowered : (n : ℕ) → b .le ≡ Ne n → b .mode ≡ Unsupported → 256 < n → shown b ≡ 256
-  pub most : b .le ≡ Max → (b .mode ≡ Unsupported → ⊥) → shown b ≡ 65536
-  pub most-lowered : b .le ≡ Max → b .mode ≡ Unsupported → shown b ≡ 256
+  pub number : (n : ℕ) → b .le ≡ Ne n → (b .mode ≡ Unsupported → n ≤ 256) → leShown b ≡ n
+  pub number-lowered : (n : ℕ) → b .le ≡ Ne n → b .mode ≡ Unsupported → 256 < n → leShown b ≡ 256
+  pub most : b .le ≡ Max → (b .mode ≡ Unsupported → ⊥) → leShown b ≡ 65536
+  pub most-lowered : b .le ≡ Max → b .mode ≡ Unsupported → leShown b ≡ 256
 
 -- when that is extended
 pub record ExtendedRead (b : CommandBuilder) (n : ℕ) : Type 0 where
   pub data-long : 255 < n → extendedFor b n ≡ true
-  pub le-large : 256 < shown b → extendedFor b n ≡ true
-  pub forced : b .mode ≡ Forced → 1 ≤ n + shown b → extendedFor b n ≡ true
-  pub short : n ≤ 255 → shown b ≤ 256 → (b .mode ≡ Forced → n + shown b ≡ 0) → extendedFor b n ≡ false
+  pub le-large : 256 < leShown b → extendedFor b n ≡ true
+  pub forced : b .mode ≡ Forced → 1 ≤ n + leShown b → extendedFor b n ≡ true
+  pub short : n ≤ 255 → leShown b ≤ 256 → (b .mode ≡ Forced → n + leShown b ≡ 0) → extendedFor b n ≡ false

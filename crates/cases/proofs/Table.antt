@@ -7,11 +7,11 @@ use Rattle.aid.specs.Making.{underFive, tested, tryNew}
 use Rattle.tlv.specs.Tag.{among, sizeByCrate, sizeByStandard, sizeBy, thirdByCrate, thirdBy, threeBytes, longTag, tagOf}
 use Rattle.tlv.specs.Len.{lenTo82}
 use Rattle.command.specs.Body.{shortBody, longBody, extendedBody, extendedByStandard, bodyOf}
-use Rattle.builder.specs.Bytes.{shown, wide, lcSize, leSize, lcLen, leLen}
+use Rattle.builder.specs.Bytes.{leShown, wide, lcSize, leSize, lcLen, leLen}
 use Rattle.splitter.specs.Step.{roomIn, roomOf, stepOf}
 use Rattle.splitter.specs.Pieces.{partsIn, parts}
 use Rattle.cases.specs.Table.{Edges}
 
 pub edges : Edges
-unfolding furtherOf channelOf rangeOf categoryOf underFive tested tryNew among sizeByCrate sizeByStandard sizeBy thirdByCrate thirdBy threeBytes longTag tagOf lenTo82 shortBody longBody extendedBody extendedByStandard bodyOf shown wide lcSize leSize lcLen leLen roomIn roomOf stepOf partsIn parts
+unfolding furtherOf channelOf rangeOf categoryOf underFive tested tryNew among sizeByCrate sizeByStandard sizeBy thirdByCrate thirdBy threeBytes longTag tagOf lenTo82 shortBody longBody extendedBody extendedByStandard bodyOf leShown wide lcSize leSize lcLen leLen roomIn roomOf stepOf partsIn parts
 edges = (refl, (refl, (refl, (refl, (refl, (refl, (refl, (refl, (refl, (refl, (refl, (refl, (refl, (refl, (refl, (refl, (refl, (refl, (refl, (refl, (refl, (refl, tt))))))))))))))))))))))

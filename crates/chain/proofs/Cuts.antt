@@ -16,7 +16,7 @@ use Rattle.class.specs.Chain.{bit, chained}
 use Rattle.class.specs.declared.Reading.the-variants.{Crate}
 use Rattle.command.specs.declared.CommandView.{CommandView}
 use Rattle.command.proofs.Cases.{ReadAs}
-use Rattle.builder.specs.Bytes.{shown, commandOf}
+use Rattle.builder.specs.Bytes.{leShown, commandOf}
 use Rattle.builder.specs.declared.CommandBuilder.{CommandBuilder}
 use Rattle.builder.specs.declared.ExpectedLen.{ExpectedLen}
 use Rattle.builder.specs.declared.ExpectedLen.the-variants.{Ne, Max}
@@ -65,7 +65,7 @@ givenBy r b d room x =
             p1 = b .p1;
             p2 = b .p2;
             len = heldBy r + length d;
-            le = shown b;
+            le = leShown b;
             extended = x;
           };
       «data» = take (heldBy r + length d) (put (heldBy r) d room);

@@ -11,7 +11,7 @@ use lib.Seq.{take-append-seam}
 use Rattle.basis.specs.Reply.{Reply, is}
 use Rattle.basis.specs.Part.{over}
 use Rattle.basis.proofs.Part.{put-zero}
-use Rattle.builder.specs.Bytes.{shown}
+use Rattle.builder.specs.Bytes.{leShown}
 use Rattle.builder.specs.declared.CommandBuilder.{CommandBuilder}
 use Rattle.builder_laws.specs.Read.{extendedFor}
 use Rattle.builder_laws.proofs.Shown.{le-read, shown-short, extended-read}
@@ -46,7 +46,7 @@ module _ (j : Job) (f : Fair j) where
   abbrev ps : List Part
   ps = parts builder d (j .buffer)
 
-  shows : shown builder ≡ j .wanted .le
+  shows : leShown builder ≡ j .wanted .le
   shows = le-read builder .number (j .wanted .le) refl (λ _. f .le)
 
   sendable : Sendable builder

@@ -9,7 +9,7 @@ use Rattle.basis.specs.Reply.{is, no}
 use Rattle.basis.specs.Part.{over, put}
 use Rattle.class.specs.declared.Reading.{Reading}
 use Rattle.command.specs.Command.{parse}
-use Rattle.command.specs.Owned.{takenOf, refusedOf, ownedOf, owned-is, fitting, extended-is}
+use Rattle.command.specs.Owned.{takenOf, refusedOf, ownedOf, owned-is, extendOf, extended-is}
 use Rattle.command.specs.declared.CommandView.{CommandView}
 use Rattle.command.specs.declared.owned.Command.{Command}
 use Rattle.command.specs.declared.owned.Owned.the-variants as owned
@@ -36,19 +36,19 @@ module _ (r : Reading) (s room : List ℕ) where
       }
 
 -- held and new data that a room has place for
-pub fitting-is : (held n m : ℕ) → held + n ≤ m → fitting held n m ≡ is (held + n)
-unfolding fitting
-fitting-is held n m h = rw (le-ltb m (held + n) h)
+pub extend-is : (held n m : ℕ) → held + n ≤ m → extendOf held n m ≡ is (held + n)
+unfolding extendOf
+extend-is held n m h = rw (le-ltb m (held + n) h)
 
 -- an extension: new data do not fit, or stand behind those held
 module _ (c : Command) (v : CommandView) (d room : List ℕ) where
   pub no-room : (x : Extended) → length room < c .len + length d → x ≡ refusedOf v (c .len) → extended-is c v d room x room
-  unfolding fitting
+  unfolding extendOf
   no-room x h e =
       let f = lt-ltb (length room) (c .len + length d) h in record { reply = rw (e, f); command = rw (e, f); buffer = rw f }
 
   pub extended : (y : Command) (after : List ℕ) → c .len + length d ≤ length room → y ≡ takenOf v (c .len + length d) true
       → after ≡ put (c .len) d room → extended-is c v d room (record { answer = extending.Done; command = y }) after
-  unfolding fitting
+  unfolding extendOf
   extended y after h e g =
       let f = le-ltb (length room) (c .len + length d) h in record { reply = rw f; command = rw f e; buffer = rw f g }

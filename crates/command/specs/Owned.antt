@@ -41,8 +41,8 @@ pub record owned-is (r : Reading) (s room : List ℕ) (x : Owned) (after : List 
   pub buffer : after ≡ copied (then (parse r s) (ownedOf (length room))) (dataIn s (parse r s)) room
 
 -- an extension: 18 where held and new data exceed the room
-unfoldable pub fitting : ℕ → ℕ → ℕ → Reply ℕ
-fitting held n m = cond (ltb m (held + n)) (no 18) (is (held + n))
+unfoldable pub extendOf : ℕ → ℕ → ℕ → Reply ℕ
+extendOf held n m = cond (ltb m (held + n)) (no 18) (is (held + n))
 
 abbrev pub saidExtending : Extending → Reply (Unit {0})
 saidExtending extending.Done = is tt
@@ -62,9 +62,9 @@ extendedRoom (no k) held d room = room
 
 -- the promise of `extend_from_command_view`: header, expected length and flag are the new ones, also with a refusal
 pub record extended-is (c : Command) (v : CommandView) (d room : List ℕ) (x : Extended) (after : List ℕ) : Type 0 where
-  pub reply : saidExtending (x .answer) ≡ done (fitting (c .len) (length d) (length room))
-  pub command : x .command ≡ takenOf v (heldAfter (fitting (c .len) (length d) (length room)) (c .len)) true
-  pub buffer : after ≡ extendedRoom (fitting (c .len) (length d) (length room)) (c .len) d room
+  pub reply : saidExtending (x .answer) ≡ done (extendOf (c .len) (length d) (length room))
+  pub command : x .command ≡ takenOf v (heldAfter (extendOf (c .len) (length d) (length room)) (c .len)) true
+  pub buffer : after ≡ extendedRoom (extendOf (c .len) (length d) (length room)) (c .len) d room
 
 -- a refused extension: the held data stay
 abbrev pub refusedOf : CommandView → ℕ → Extended

@@ -16,7 +16,7 @@ use Rattle.aid.specs.declared.Answer.the-variants.{Made, Refused}
 use Rattle.aid.specs.declared.TryNew.{TryNew}
 use Rattle.aid.specs.declared.part.Part.{Part}
 use Rattle.aid.specs.declared.part.Copied.{Copied}
-use Rattle.tell.specs.Answers.{short, written, refuse-is}
+use Rattle.tell.specs.Answers.{short, outAfter, refuse-is}
 use Rattle.tell.proofs.Answers.{said as told-no}
 use Rattle.exports_aid.specs.Numbers.{sized, PartCopied}
 
@@ -48,7 +48,7 @@ module _ (p : Part) (a : Aid) (to out : List ℕ) where
   no-room h = record { reply = rw (lt-ltb _ _ h, short-copy); copied = rw (lt-ltb _ _ h); told = rw (lt-ltb _ _ h, short-copy) }
 
   pub told-of : 1 ≤ length out → (r : Copied) (to′ out′ : List ℕ) (y : Reply (Option ℕ)) → copy-part-is p a to r to′ → saidCopied r ≡ y
-      → out′ ≡ written (then y sized) out → PartCopied p (is a) to out (status y) to′ out′
+      → out′ ≡ outAfter (then y sized) out → PartCopied p (is a) to out (status y) to′ out′
   told-of room r to′ out′ y h e o =
       record {
         reply = rw (le-ltb _ _ room, ← h .reply, e);

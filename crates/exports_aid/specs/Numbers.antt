@@ -16,7 +16,7 @@ use Rattle.aid.specs.declared.TryNew.{TryNew}
 use Rattle.aid.specs.declared.category.Category.the-variants.{International, National, Standard, Proprietary}
 use Rattle.aid.specs.declared.part.Part.{Part}
 use Rattle.aid.specs.declared.part.Part.the-variants as part
-use Rattle.tell.specs.Answers.{flagOf, orNone, fitting, written}
+use Rattle.tell.specs.Answers.{flagOf, orNone, fitting, outAfter}
 
 -- 0 all bytes, 1 the truncated part, 2 the RID, any other number the PIX
 unfoldable pub partNumbered : ℕ → Part
@@ -68,4 +68,4 @@ sized o = is (orNone o ∷ [])
 pub record PartCopied (p : Part) (x : Reply Aid) (to out : List ℕ) (r : ℕ) (to′ out′ : List ℕ) : Type 0 where
   pub reply : r ≡ status (copying p x (length to) (length out))
   pub copied : to′ ≡ copiedTo p x (length out) to
-  pub told : out′ ≡ written (then (copying p x (length to) (length out)) sized) out
+  pub told : out′ ≡ outAfter (then (copying p x (length to) (length out)) sized) out

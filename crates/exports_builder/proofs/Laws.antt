@@ -14,7 +14,7 @@ use Rattle.class.specs.declared.Reading.the-variants.{Crate}
 use Rattle.command.specs.Command.{parse, dataIn}
 use Rattle.command.specs.declared.CommandView.{CommandView}
 use Rattle.tell.specs.Answers.{flagOf, Answers}
-use Rattle.builder.specs.Builder.{within, newOf, forcedOf}
+use Rattle.builder.specs.Builder.{unlessLong, newOf, forcedOf}
 use Rattle.builder.specs.Bytes.{requiredLen}
 use Rattle.builder.specs.Compare.{equalTo}
 use Rattle.builder.specs.declared.CommandBuilder.{CommandBuilder}
@@ -36,12 +36,12 @@ then-forced (no k) f = refl
 
 module _ (n : ℕ) where
   told : (x : Reply CommandBuilder) (f : CommandBuilder → ℕ) → Few n x
-      → then x (λ b. then (within n (is (f b))) (λ k. is (k ∷ []))) ≡ then x (λ b. is (f b ∷ []))
+      → then x (λ b. then (unlessLong n (is (f b))) (λ k. is (k ∷ []))) ≡ then x (λ b. is (f b ∷ []))
   told (is b) f h = rw (le-ltb 65535 n h)
   told (no k) f h = refl
 
   told-equal : (x : Reply CommandBuilder) (y : Reply CommandView) (f : CommandBuilder → CommandView → Bool) → Few n x
-      → equalNumbers (either x y (λ b v. within n (is (f b v)))) ≡ either x y (λ b v. is (flagOf (f b v) ∷ []))
+      → equalNumbers (either x y (λ b v. unlessLong n (is (f b v)))) ≡ either x y (λ b v. is (flagOf (f b v) ∷ []))
   told-equal (is b) (is v) f h = rw (le-ltb 65535 n h)
   told-equal (no k) (is v) f h = refl
   told-equal x (no j) f h = refl

@@ -8,7 +8,7 @@ use Rattle.basis.specs.Reply.{Reply, is, then}
 use Rattle.class.specs.declared.Reading.the-variants.{Crate}
 use Rattle.command.specs.Command.{parse, dataIn}
 use Rattle.tell.specs.Answers.{flagOf}
-use Rattle.builder.specs.Builder.{within, forcedOf}
+use Rattle.builder.specs.Builder.{unlessLong, forcedOf}
 use Rattle.builder.specs.Bytes.{requiredLen}
 use Rattle.builder.specs.Compare.{equalTo}
 use Rattle.builder.specs.declared.CommandBuilder.{CommandBuilder}
@@ -18,10 +18,10 @@ abbrev pub forcing : Reply CommandBuilder → Reply CommandBuilder
 forcing x = then x (λ b. forcedOf b (b .mode))
 
 abbrev pub requiring : Reply CommandBuilder → List ℕ → Reply (List ℕ)
-requiring x d = then x (λ b. then (within (length d) (is (requiredLen b (length d)))) (λ n. is (n ∷ [])))
+requiring x d = then x (λ b. then (unlessLong (length d) (is (requiredLen b (length d)))) (λ n. is (n ∷ [])))
 
 abbrev pub comparing : Reply CommandBuilder → List ℕ → List ℕ → Reply Bool
-comparing x d s = either x (parse Crate s) (λ b v. within (length d) (is (equalTo b d v (dataIn s (parse Crate s)))))
+comparing x d s = either x (parse Crate s) (λ b v. unlessLong (length d) (is (equalTo b d v (dataIn s (parse Crate s)))))
 
 abbrev pub equalNumbers : Reply Bool → Reply (List ℕ)
 equalNumbers x = then x (λ b. is (flagOf b ∷ []))

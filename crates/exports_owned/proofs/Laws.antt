@@ -7,13 +7,13 @@ use borrow.Author.Tests.{lt-ltb, le-ltb}
 use Rattle.basis.specs.Reply.{Reply, is, no, then, status}
 use Rattle.class.specs.declared.Reading.{Reading}
 use Rattle.command.specs.Command.{parse, dataIn}
-use Rattle.command.specs.Owned.{ownedOf, copied, saidOwned, owned-is, fitting, saidExtending, done, extended-is}
+use Rattle.command.specs.Owned.{ownedOf, copied, saidOwned, owned-is, extendOf, saidExtending, done, extended-is}
 use Rattle.command.specs.declared.CommandView.{CommandView}
 use Rattle.command.specs.declared.owned.Command.{Command}
 use Rattle.command.specs.declared.owned.Owned.{Owned}
 use Rattle.command.specs.declared.owned.Owned.the-variants as owned
 use Rattle.command.specs.declared.owned.Extended.{Extended}
-use Rattle.tell.specs.Answers.{short, written, Answers}
+use Rattle.tell.specs.Answers.{short, outAfter, Answers}
 use Rattle.exports_owned.specs.Copies.{commandNumbers, OwnedCopied, held, Extends}
 
 status-done : (x : Reply ℕ) → status (done x) ≡ status x
@@ -25,7 +25,7 @@ copied-short : (x : Reply Command) (d room : List ℕ) → room ≡ copied (shor
 copied-short (is c) d room = refl
 copied-short (no k) d room = refl
 
-written-short : (x : Reply Command) (out : List ℕ) → out ≡ written (then (short x) (λ c. is (commandNumbers c))) out
+written-short : (x : Reply Command) (out : List ℕ) → out ≡ outAfter (then (short x) (λ c. is (commandNumbers c))) out
 written-short (is c) out = refl
 written-short (no k) out = refl
 
@@ -59,7 +59,7 @@ pub extends : (n : ℕ) (v : CommandView) (d room out : List ℕ) (x : Extended)
     → 7 ≤ length out → Extends n v d room out k after out′
 extends n v d room out x after h k e y out′ a l =
     record {
-      reply = e ∙ ap status (h .reply) ∙ status-done (fitting n (length d) (length room));
+      reply = e ∙ ap status (h .reply) ∙ status-done (extendOf n (length d) (length room));
       bytes = h .buffer;
       told = rw (← h .command) (rw (le-ltb (length out) 7 l) at (a .told));
     }

@@ -9,10 +9,10 @@ use Rattle.basis.specs.Part.{over}
 use Rattle.class.specs.declared.Reading.{Reading}
 use Rattle.class.specs.declared.Reading.the-variants.{Crate}
 use Rattle.command.specs.Command.{parse, dataIn}
-use Rattle.command.specs.Owned.{takenOf, ownedOf, copied, fitting as extending, heldAfter, extendedRoom}
+use Rattle.command.specs.Owned.{takenOf, ownedOf, copied, extendOf as extending, heldAfter, extendedRoom}
 use Rattle.command.specs.declared.CommandView.{CommandView}
 use Rattle.command.specs.declared.owned.Command.{Command}
-use Rattle.tell.specs.Answers.{flagOf, fitting, written, Copied, refuse-is}
+use Rattle.tell.specs.Answers.{flagOf, fitting, outAfter, Copied, refuse-is}
 use Rattle.exports_command.specs.Numbers.{readingNumbered}
 
 -- the data of a command that was read, copied and counted; a refusal changes nothing
@@ -36,7 +36,7 @@ owning r s m n = fitting 7 n (then (parse r s) (ownedOf m))
 pub record OwnedCopied (r : Reading) (s room out : List ℕ) (x : ℕ) (room′ out′ : List ℕ) : Type 0 where
   pub reply : x ≡ status (owning r s (length room) (length out))
   pub bytes : room′ ≡ copied (owning r s (length room) (length out)) (dataIn s (parse r s)) room
-  pub told : out′ ≡ written (then (owning r s (length room) (length out)) (λ c. is (commandNumbers c))) out
+  pub told : out′ ≡ outAfter (then (owning r s (length room) (length out)) (λ c. is (commandNumbers c))) out
 
 -- a held command with so many bytes of data; its other numbers are replaced by an extension
 abbrev pub held : ℕ → Command

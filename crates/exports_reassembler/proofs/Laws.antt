@@ -13,18 +13,18 @@ use Rattle.basis.specs.Part.{over, put}
 use Rattle.basis.proofs.Part.{rest-is, put-zero, length-put, next, length-over}
 use Rattle.class.specs.declared.Reading.the-variants.{Crate}
 use Rattle.command.specs.Command.{parse, dataIn}
-use Rattle.command.specs.Owned.{fitting}
+use Rattle.command.specs.Owned.{extendOf}
 use Rattle.command.specs.declared.CommandView.{CommandView}
 use Rattle.reassembler.specs.Join.{continues, heldBy, lengthOf, takenIn, viewIn, parsedIn, joinOf, said, join-is}
 use Rattle.reassembler.specs.declared.Reassembler.{Reassembler}
 use Rattle.reassembler.specs.declared.Reassembler.the-variants.{Closed, Open}
 use Rattle.reassembler.specs.declared.Joined.{Joined}
-use Rattle.tell.specs.Answers.{short, written, refuse-is, Answers}
+use Rattle.tell.specs.Answers.{short, outAfter, refuse-is, Answers}
 use Rattle.tell.proofs.Answers.{said as told-no, answers-no, told-done, told-all}
 use Rattle.exports_reassembler.specs.Numbers.{heldNumbers, recordNumbers, telling, metBy, joinedBy, roomAfter, usableOf, PieceJoined}
 
 -- a slice too short leaves itself and the room
-written-short : (x : Reply (List ℕ)) (out : List ℕ) → out ≡ written (short x) out
+written-short : (x : Reply (List ℕ)) (out : List ℕ) → out ≡ outAfter (short x) out
 written-short (is vs) out = refl
 written-short (no k) out = refl
 
@@ -45,7 +45,7 @@ module _ (r : Reassembler) (room : List ℕ) where
   short-taken v d false w n = refl
 
   short-view : (v : CommandView) (d : List ℕ) → let o = viewIn r room v d in short (telling (o .reply) (o .state)) ≡ no 16
-  unfolding lengthOf fitting
+  unfolding lengthOf extendOf
   short-view v d =
       let n = heldBy r + length d in short-taken v d (continues r v) (ltb (length room) n) n
 
@@ -83,7 +83,7 @@ module _ (r : Reassembler) where
   none-taken v d false w e = refl
 
   none-view : (v : CommandView) (d : List ℕ) → viewIn r [] v d .room ≡ []
-  unfolding lengthOf fitting
+  unfolding lengthOf extendOf
   none-view v d = none-taken v d (continues r v) (ltb 0 (heldBy r + length d)) refl
 
   none-parsed : (s : List ℕ) (y : Reply CommandView) → parsedIn r [] s y .room ≡ []
@@ -99,12 +99,12 @@ one-anyway true = refl
 one-anyway false = refl
 
 -- what may be used is a part of the room
-usable-within : (b : Bool) (n : ℕ) → cond b 0 n ≤ n
-usable-within true n = omega arith
-usable-within false n = omega arith
+usable-by : (b : Bool) (n : ℕ) → cond b 0 n ≤ n
+usable-by true n = omega arith
+usable-by false n = omega arith
 
-pub within : (n m : ℕ) {k : ℕ} → k ≡ usableOf n m → k ≤ n
-within n m e = rw e (usable-within (ltb m 14) n)
+pub usable-le : (n m : ℕ) {k : ℕ} → k ≡ usableOf n m → k ≤ n
+usable-le n m e = rw e (usable-by (ltb m 14) n)
 
 -- a piece that meets the record x: under 4 bytes; no record; no room for the numbers; joined
 module _ (x : Reply Reassembler) (s room out : List ℕ) where
@@ -143,7 +143,7 @@ module _ (x : Reply Reassembler) (s room out : List ℕ) where
           let y = joinedBy (is r) room s in
           let z = joinedBy (is r) (take n room) s in
           let said : q ≡ status (short z) = rw m at (a .reply) in
-          let told : out′ ≡ written (short z) out = rw m at (a .told) in
+          let told : out′ ≡ outAfter (short z) out = rw m at (a .told) in
           record {
             says =
                 rw (e, f)

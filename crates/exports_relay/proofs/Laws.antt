@@ -7,7 +7,7 @@ use native.Mathlib.Omega.{arith}
 use lib.ListN.{length}
 use Rattle.basis.specs.Reply.{Reply, is, no}
 use Rattle.splitter.specs.declared.pieces.Pieces.{Pieces}
-use Rattle.tell.specs.Answers.{written, refuse-is, Answers}
+use Rattle.tell.specs.Answers.{outAfter, refuse-is, Answers}
 use Rattle.tell.proofs.Answers.{said as told-no, told-done, told-all}
 use Rattle.exports_relay.specs.Relay.{startOf, runIn, stateNumbers, Ends, Relayed}
 use Rattle.exports_relay.specs.declared.State.{State}
@@ -39,6 +39,6 @@ module _ (x : Reply Pieces) (d buffer room out : List ℕ) where
           roomed = g .roomed;
           told =
               told-all v out w out′ a n
-              ∙ ap (λ (u : List ℕ). written (is u) out)
+              ∙ ap (λ (u : List ℕ). outAfter (is u) out)
               (s ∙ ap (λ (k : ℕ). stateNumbers k (z .state)) (g .number) ∙ ap (λ (y : State). stateNumbers (o .ended) y) (g .stands));
         })

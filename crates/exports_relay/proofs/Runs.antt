@@ -9,7 +9,7 @@ use lib.Dec.{ltb}
 use lib.ListN.{length, take, drop}
 use Rattle.basis.specs.Reply.{Reply, is, no, then}
 use Rattle.basis.proofs.Reply.{All, all-is, all-cond, all-then, all-every}
-use Rattle.builder.specs.Bytes.{commandOf, fitting}
+use Rattle.builder.specs.Bytes.{commandOf, serializeOf}
 use Rattle.builder.specs.declared.CommandBuilder.{CommandBuilder}
 use Rattle.command.specs.declared.owned.Command.{Command}
 use Rattle.splitter.specs.Pieces.{nextOf, writing, writeOf, pieceIn, bufferAfter, saidWrite, write-next-is}
@@ -84,8 +84,8 @@ module _ (x : State) (d buffer room : List ℕ) (y : WriteNext) (after : List �
   Inside none = Unit {0}
   Inside (some w) = w .len ≤ length buffer
 
-  fits : (b : CommandBuilder) (s : List ℕ) → All (λ n. n ≤ length buffer) (fitting b s (length buffer) 0)
-  unfolding fitting
+  fits : (b : CommandBuilder) (s : List ℕ) → All (λ n. n ≤ length buffer) (serializeOf b s (length buffer) 0)
+  unfolding serializeOf
   fits b s =
       all-cond (λ n. n ≤ length buffer) (ltb 65535 (length s)) _ _ (λ e. tt)
       (λ e.
@@ -96,7 +96,7 @@ module _ (x : State) (d buffer room : List ℕ) (y : WriteNext) (after : List �
   piece-fits none = tt
   piece-fits (some p) =
       let s = take (p .len) (drop (p .at) d) in
-      all-then Inside (λ n. n ≤ length buffer) (fitting (p .builder) s (length buffer) 0)
+      all-then Inside (λ n. n ≤ length buffer) (serializeOf (p .builder) s (length buffer) 0)
       (λ n. is (some (record { len = n; rest = p .rest }))) (fits (p .builder) s) (λ n h. h)
 
   all-fit : All Inside (writeOf (x .chain) d (length buffer) 0)

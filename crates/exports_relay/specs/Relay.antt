@@ -15,7 +15,7 @@ use Rattle.splitter.specs.declared.pieces.Written.{Written}
 use Rattle.reassembler.specs.Join.{Outcome, joinOf}
 use Rattle.reassembler.specs.declared.Reassembler.{Reassembler}
 use Rattle.reassembler.specs.declared.Reassembler.the-variants.{Closed}
-use Rattle.tell.specs.Answers.{flagOf, fitting, written}
+use Rattle.tell.specs.Answers.{flagOf, fitting, outAfter}
 use Rattle.exports_relay.specs.declared.State.{State}
 use Rattle.exports_relay.specs.declared.Turn.{Turn}
 use Rattle.exports_relay.specs.declared.Turn.the-variants as turn
@@ -128,7 +128,7 @@ pub record Tells (x : Reply Ended) (buffer room out : List ℕ) (r : ℕ) (buffe
   pub reply : r ≡ status x
   pub buffered : buffer′ ≡ bufferOf x buffer
   pub roomed : room′ ≡ roomOf x room
-  pub told : out′ ≡ written (then x (λ e. is (stateNumbers (e .ended) (e .state)))) out
+  pub told : out′ ≡ outAfter (then x (λ e. is (stateNumbers (e .ended) (e .state)))) out
 
 -- the promise of `gorvisclen_cut_and_join`, for the chain x: the slice for ten numbers is tested when the chain is made
 abbrev pub Relayed : Reply Pieces → List ℕ → List ℕ → List ℕ → List ℕ → ℕ → List ℕ → List ℕ → List ℕ → Type 0

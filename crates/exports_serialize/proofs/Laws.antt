@@ -12,7 +12,7 @@ use Rattle.basis.proofs.Reply.{all-is}
 use Rattle.tell.specs.Answers.{short, refuse-is}
 use Rattle.tell.proofs.Answers.{said as told-no}
 use Rattle.builder.specs.Builder.{said}
-use Rattle.builder.specs.Bytes.{commandOf, fitting, said as saidLength, serialize-into-is}
+use Rattle.builder.specs.Bytes.{commandOf, serializeOf, said as saidLength, serialize-into-is}
 use Rattle.builder.specs.declared.CommandBuilder.{CommandBuilder}
 use Rattle.builder.specs.declared.Built.{Built}
 use Rattle.builder.specs.declared.Built.the-variants as built
@@ -27,8 +27,8 @@ at-most true n = refl
 at-most false n = refl
 
 -- without room for the length the reply is 16, for data that are few enough
-no-count : (b : CommandBuilder) (d : List ℕ) (m at : ℕ) → length d ≤ 65535 → short (fitting b d m at) ≡ no 16
-unfolding fitting
+no-count : (b : CommandBuilder) (d : List ℕ) (m at : ℕ) → length d ≤ 65535 → short (serializeOf b d m at) ≡ no 16
+unfolding serializeOf
 no-count b d m at h =
     rw (le-ltb 65535 (length d) h) (at-most (ltb m (at + length (commandOf b d))) (length (commandOf b d)))
 
@@ -57,11 +57,11 @@ module _ (c i p q e m : ℕ) (d : List ℕ) (o : Built) (made : said o ≡ build
       pub refused : (k : ℕ) → y ≡ Refused k → Serialized x d at l out k after out
       refused k t =
           let n = le-ltb (length out) 1 h in
-          let f : fitting b d (length l) at ≡ no k = sym (s .reply) ∙ ap saidLength t in
+          let f : serializeOf b d (length l) at ≡ no k = sym (s .reply) ∙ ap saidLength t in
           record { reply = rw (x-is, n, f); bytes = rw (x-is, n) (s .buffer); told = rw (x-is, n, f) }
 
       pub done : (k : ℕ) (out′ : List ℕ) → y ≡ Bytes k → out′ ≡ over (k ∷ []) out → Serialized x d at l out 0 after out′
       done k out′ t w =
           let n = le-ltb (length out) 1 h in
-          let f : fitting b d (length l) at ≡ is k = sym (s .reply) ∙ ap saidLength t in
+          let f : serializeOf b d (length l) at ≡ is k = sym (s .reply) ∙ ap saidLength t in
           record { reply = rw (x-is, n, f); bytes = rw (x-is, n) (s .buffer); told = rw (x-is, n, f) w }

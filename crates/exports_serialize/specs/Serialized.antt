@@ -5,8 +5,8 @@ use mathlib.Core.Path.{_≡_}
 use mathlib.Core.List.{List, [], _∷_}
 use lib.ListN.{length}
 use Rattle.basis.specs.Reply.{Reply, is, no, then, status}
-use Rattle.tell.specs.Answers.{fitting, written}
-use Rattle.builder.specs.Bytes.{bufferAfter, fitting as command}
+use Rattle.tell.specs.Answers.{fitting, outAfter}
+use Rattle.builder.specs.Bytes.{bufferAfter, serializeOf as command}
 use Rattle.builder.specs.declared.CommandBuilder.{CommandBuilder}
 
 -- the command of a builder with the data d, written from a place of a buffer of m bytes, its length told in a slice of n
@@ -23,4 +23,4 @@ pub record Serialized (x : Reply CommandBuilder) (d : List ℕ) (at : ℕ) (buff
     : Type 0 where
   pub reply : r ≡ status (writing x d at (length buffer) (length out))
   pub bytes : buffer′ ≡ bufferBy x (writing x d at (length buffer) (length out)) d buffer at
-  pub told : out′ ≡ written (then (writing x d at (length buffer) (length out)) (λ n. is (n ∷ []))) out
+  pub told : out′ ≡ outAfter (then (writing x d at (length buffer) (length out)) (λ n. is (n ∷ []))) out

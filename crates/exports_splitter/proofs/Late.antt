@@ -11,7 +11,7 @@ use lib.ListN.{length, take, drop, length-take, length-drop}
 use Rattle.basis.specs.Reply.{Reply, is, no, then}
 use Rattle.basis.proofs.Reply.{All, all-is, all-cond, all-then}
 use Rattle.tell.specs.Answers.{short}
-use Rattle.builder.specs.Bytes.{commandOf, fitting}
+use Rattle.builder.specs.Bytes.{commandOf, serializeOf}
 use Rattle.builder.specs.declared.CommandBuilder.{CommandBuilder}
 use Rattle.splitter.specs.Step.{stepOf}
 use Rattle.splitter.specs.Pieces.{chainOf, placeIn, pieceBy, leftOf, writing, writeOf}
@@ -44,9 +44,9 @@ late-then : {A B : Type 0} (x : Reply A) (f : A → Reply B) → Late x → ((a 
 late-then (is a) f h g = g a
 late-then (no k) f h g = h
 
-late-fitting : (b : CommandBuilder) (t : List ℕ) (m at : ℕ) → length t ≤ 65535 → Late (fitting b t m at)
-unfolding fitting
-late-fitting b t m at h =
+late-written : (b : CommandBuilder) (t : List ℕ) (m at : ℕ) → length t ≤ 65535 → Late (serializeOf b t m at)
+unfolding serializeOf
+late-written b t m at h =
     rw (le-ltb 65535 (length t) h) (late-cond (ltb m (at + length (commandOf b t))) (length (commandOf b t)))
 
 -- no step is refused
@@ -67,8 +67,8 @@ module _ (d : List ℕ) (few : length d ≤ 65535) where
     late-piece : (p : Piece) → Late (writing (some p) d m at)
     late-piece p =
         let t = take (p .len) (drop (p .at) d) in
-        late-then (fitting (p .builder) t m at) _
-        (late-fitting (p .builder) t m at (omega (arith, length-take (p .len) (drop (p .at) d), length-drop (p .at) d)))
+        late-then (serializeOf (p .builder) t m at) _
+        (late-written (p .builder) t m at (omega (arith, length-take (p .len) (drop (p .at) d), length-drop (p .at) d)))
         (λ n. tt)
 
     late-next : (y : Reply Piece) → Late y → Late (then (then y (λ p. is (some p))) (λ p. writing p d m at))

@@ -6,7 +6,7 @@ use mathlib.Core.Option.{Option, some}
 use borrow.Author.Tests.{lt-ltb, le-ltb}
 use lib.ListN.{length}
 use Rattle.basis.specs.Reply.{Reply, is, no, then, status}
-use Rattle.tell.specs.Answers.{written, refuse-is, Answers}
+use Rattle.tell.specs.Answers.{outAfter, refuse-is, Answers}
 use Rattle.tell.proofs.Answers.{said as told-no}
 use Rattle.builder.specs.Bytes.{asked as numberOf}
 use Rattle.builder.specs.declared.CommandBuilder.{CommandBuilder}
@@ -57,5 +57,5 @@ module _ (x : Reply Pieces) (d : List ℕ) (at : ℕ) (l out : List ℕ) where
         record {
           reply = rw (f, n) (rw n at (a .reply) ∙ told-status (saidWrite y) ∙ ap status (s .reply));
           bytes = rw (f, n) (s .buffer);
-          told = rw (f, n) (rw n at (a .told) ∙ ap (λ (z : Reply (Option Written)). written (telling z) out) (s .reply));
+          told = rw (f, n) (rw n at (a .told) ∙ ap (λ (z : Reply (Option Written)). outAfter (telling z) out) (s .reply));
         }

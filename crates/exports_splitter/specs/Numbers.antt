@@ -8,7 +8,7 @@ use mathlib.Core.Option.{Option, none, some}
 use lib.Dec.{eqb}
 use lib.ListN.{length}
 use Rattle.basis.specs.Reply.{Reply, is, then, status}
-use Rattle.tell.specs.Answers.{fitting, written}
+use Rattle.tell.specs.Answers.{fitting, outAfter}
 use Rattle.builder.specs.Bytes.{asked}
 use Rattle.exports_builder.specs.Numbers.{builderNumbered}
 use Rattle.splitter.specs.Step.{stepOf}
@@ -75,4 +75,4 @@ pub record PieceWritten (x : Reply Pieces) (d : List ℕ) (at : ℕ) (buffer out
   where
     pub reply : r ≡ status (writing x d at (length buffer) (length out))
     pub bytes : buffer′ ≡ bufferAfter (writing x d at (length buffer) (length out)) (pieceBytes x d) buffer at
-    pub told : out′ ≡ written (telling (writing x d at (length buffer) (length out))) out
+    pub told : out′ ≡ outAfter (telling (writing x d at (length buffer) (length out))) out

@@ -9,7 +9,7 @@ use lib.ListN.{length}
 use Rattle.basis.specs.Reply.{is, no}
 use Rattle.basis.specs.Part.{over}
 use Rattle.tell.specs.Answers.{short}
-use Rattle.tlv_write.specs.Written.{objectBytes, fitting, said, put-data-object-is}
+use Rattle.tlv_write.specs.Written.{objectBytes, putOf, said, put-data-object-is}
 use Rattle.tlv_write.specs.declared.PutDataObject.{PutDataObject}
 use Rattle.tlv_write.specs.declared.PutDataObject.the-variants.{Written, Refused}
 use Rattle.exports_write.specs.Objects.{ObjectWritten}
@@ -20,8 +20,8 @@ at-most true b n = refl
 at-most false true n = refl
 at-most false false n = refl
 
-no-count : (at m : ℕ) (t v : List ℕ) → short (fitting at m t v) ≡ no 16
-unfolding fitting
+no-count : (at m : ℕ) (t v : List ℕ) → short (putOf at m t v) ≡ no 16
+unfolding putOf
 no-count at m t v = at-most (ltb 65535 (length v)) (ltb m (at + length (objectBytes t v))) (length (objectBytes t v))
 
 -- no room for the count; refused; written
@@ -36,11 +36,11 @@ module _ (t v : List ℕ) (at : ℕ) (b out : List ℕ) where
     pub refused : (k : ℕ) → x ≡ Refused k → ObjectWritten t v at b out k after out
     refused k e =
         let n = le-ltb (length out) 1 h in
-        let f : fitting at (length b) t v ≡ no k = sym (p .reply) ∙ ap said e in
+        let f : putOf at (length b) t v ≡ no k = sym (p .reply) ∙ ap said e in
         record { reply = rw (n, f); bytes = rw n (p .buffer); told = rw (n, f) }
 
     pub done : (k : ℕ) (out′ : List ℕ) → x ≡ Written k → out′ ≡ over (k ∷ []) out → ObjectWritten t v at b out 0 after out′
     done k out′ e g =
         let n = le-ltb (length out) 1 h in
-        let f : fitting at (length b) t v ≡ is k = sym (p .reply) ∙ ap said e in
+        let f : putOf at (length b) t v ≡ is k = sym (p .reply) ∙ ap said e in
         record { reply = rw (n, f); bytes = rw n (p .buffer); told = rw (n, f) g }

@@ -4,8 +4,8 @@ use mathlib.Core.Path.{_≡_}
 use mathlib.Core.List.{List, [], _∷_}
 use lib.ListN.{length}
 use Rattle.basis.specs.Reply.{Reply, is, then, status}
-use Rattle.tell.specs.Answers.{fitting, written}
-use Rattle.tlv_write.specs.Written.{bufferAfter, fitting as object}
+use Rattle.tell.specs.Answers.{fitting, outAfter}
+use Rattle.tlv_write.specs.Written.{bufferAfter, putOf as object}
 
 -- an object written from a place of a buffer of m bytes, how many they are told in a slice of n
 abbrev pub writing : List ℕ → List ℕ → ℕ → ℕ → ℕ → Reply ℕ
@@ -15,4 +15,4 @@ writing t v at m n = fitting 1 n (object at m t v)
 pub record ObjectWritten (t v : List ℕ) (at : ℕ) (buffer out : List ℕ) (x : ℕ) (buffer′ out′ : List ℕ) : Type 0 where
   pub reply : x ≡ status (writing t v at (length buffer) (length out))
   pub bytes : buffer′ ≡ bufferAfter (writing t v at (length buffer) (length out)) at t v buffer
-  pub told : out′ ≡ written (then (writing t v at (length buffer) (length out)) (λ n. is (n ∷ []))) out
+  pub told : out′ ≡ outAfter (then (writing t v at (length buffer) (length out)) (λ n. is (n ∷ []))) out

@@ -116,12 +116,12 @@ stepOf (lines.Records w) s = recordStep s w
 stepOf lines.Done s = is none
 
 -- into a buffer of m bytes: 16 where the line is longer
-abbrev pub fitting : ℕ → Option Given → Reply (Option Line)
-fitting m none = is none
-fitting m (some g) = cond (ltb m (length (g .text))) (no 16) (is (some (record { len = length (g .text); rest = g .rest })))
+abbrev pub lineInto : ℕ → Option Given → Reply (Option Line)
+lineInto m none = is none
+lineInto m (some g) = cond (ltb m (length (g .text))) (no 16) (is (some (record { len = length (g .text); rest = g .rest })))
 
 abbrev pub lineIn : ℕ → Reply (Option Given) → Reply (Option Line)
-lineIn m x = then x (fitting m)
+lineIn m x = then x (lineInto m)
 
 -- the buffer after it: the line from its beginning, bytes past it stay; a refusal, and none left, change nothing
 abbrev pub textIn : Reply (Option Given) → List ℕ

@@ -11,7 +11,7 @@ use Rattle.basis.specs.Part.{put}
 use Rattle.class.specs.Chain.{bit}
 use Rattle.class.specs.declared.Reading.the-variants.{Crate}
 use Rattle.command.specs.Command.{parse, dataIn}
-use Rattle.command.specs.Owned.{fitting, saidExtending, done, heldAfter, extendedRoom, extended-is}
+use Rattle.command.specs.Owned.{extendOf, saidExtending, done, heldAfter, extendedRoom, extended-is}
 use Rattle.command.specs.declared.CommandView.{CommandView}
 use Rattle.command.specs.declared.owned.Command.{Command}
 use Rattle.command.specs.declared.owned.Extended.{Extended}
@@ -47,18 +47,18 @@ module _ (r : Reassembler) (v : CommandView) (d room : List ℕ) where
     held : before .len ≡ heldBy r
     held = ap (λ (y : Command). y .len) b ∙ l
 
-    length-is : (z : Reply ℕ) → fitting (before .len) (length d) (length room) ≡ z → lengthOf r v (length d) (length room) ≡ z
+    length-is : (z : Reply ℕ) → extendOf (before .len) (length d) (length room) ≡ z → lengthOf r v (length d) (length room) ≡ z
     unfolding lengthOf
     length-is z f = rw (c, ← held) f
 
-    said-is : (z : Reply ℕ) → fitting (before .len) (length d) (length room) ≡ z → saidExtending (y .answer) ≡ done z
+    said-is : (z : Reply ℕ) → extendOf (before .len) (length d) (length room) ≡ z → saidExtending (y .answer) ≡ done z
     said-is z f = e .reply ∙ ap done f
 
-    room-is : (z : Reply ℕ) → fitting (before .len) (length d) (length room) ≡ z → after ≡ extendedRoom z (before .len) d room
+    room-is : (z : Reply ℕ) → extendOf (before .len) (length d) (length room) ≡ z → after ≡ extendedRoom z (before .len) d room
     room-is z f = e .buffer ∙ ap (λ (x : Reply ℕ). extendedRoom x (before .len) d room) f
 
     -- refused, it changes nothing
-    by-refused : (z : Reply ℕ) (k : ℕ) → fitting (before .len) (length d) (length room) ≡ z → saidExtending (y .answer) ≡ no k
+    by-refused : (z : Reply ℕ) (k : ℕ) → extendOf (before .len) (length d) (length room) ≡ z → saidExtending (y .answer) ≡ no k
         → (lengthOf r v (length d) (length room) ≡ no k) × (after ≡ room)
     by-refused (is n) k f g = absurd (no-is k tt (sym g ∙ said-is (is n) f))
     by-refused (no j) k f g =
@@ -67,11 +67,11 @@ module _ (r : Reassembler) (v : CommandView) (d room : List ℕ) where
 
     pub refused : (k : ℕ) (x : Joined) → y .answer ≡ extending.Refused k → Says (no k) r x → Joins (viewIn r room v d) x after
     refused k x g s =
-        let t = by-refused (fitting (before .len) (length d) (length room)) k refl (ap saidExtending g) in
+        let t = by-refused (extendOf (before .len) (length d) (length room)) k refl (ap saidExtending g) in
         record { says = rw (t .0) s; buffer = rw (t .0) (t .1) }
 
     -- taken, its data stand behind those held
-    by-taken : (z : Reply ℕ) → fitting (before .len) (length d) (length room) ≡ z → saidExtending (y .answer) ≡ is tt
+    by-taken : (z : Reply ℕ) → extendOf (before .len) (length d) (length room) ≡ z → saidExtending (y .answer) ≡ is tt
         → (lengthOf r v (length d) (length room) ≡ is (y .command .len)) × (after ≡ put (heldBy r) d room)
     by-taken (no j) f g = absurd (no-is j tt (sym (said-is (no j) f) ∙ g))
     by-taken (is n) f g =
@@ -82,7 +82,7 @@ module _ (r : Reassembler) (v : CommandView) (d room : List ℕ) where
     pub taken : (x : Joined) → y .answer ≡ extending.Done
         → Says (is (answerOf r v (y .command .len))) (stateOf v (y .command .len)) x → Joins (viewIn r room v d) x after
     taken x g s =
-        let t = by-taken (fitting (before .len) (length d) (length room)) refl (ap saidExtending g) in
+        let t = by-taken (extendOf (before .len) (length d) (length room)) refl (ap saidExtending g) in
         record { says = rw (t .0) s; buffer = rw (t .0) (t .1) }
 
 -- any piece: refused by the parser, or read

@@ -14,9 +14,9 @@ use Rattle.basis.proofs.Reply.{no-is}
 use Rattle.class.specs.Chain.{bit, chained}
 use Rattle.class.specs.declared.Reading.the-variants.{Crate}
 use Rattle.command.specs.Command.{parse, dataIn}
-use Rattle.command.specs.Owned.{fitting}
+use Rattle.command.specs.Owned.{extendOf}
 use Rattle.command.specs.declared.CommandView.{CommandView}
-use Rattle.command.proofs.Rooms.{fitting-is}
+use Rattle.command.proofs.Rooms.{extend-is}
 use Rattle.reassembler.specs.Join.{continuesOpen, SameHeader, continues, heldBy, commandIn, lengthOf, heldOf, answerOf, stateOf, Outcome, refusedOf, takenIn, parsedIn, joinOf}
 use Rattle.reassembler.specs.declared.Held.{Held}
 use Rattle.reassembler.specs.declared.Reassembler.{Reassembler}
@@ -28,7 +28,7 @@ module _ (r : Reassembler) (room s : List ℕ) (v : CommandView) (d : List ℕ) 
     (part : dataIn s (parse Crate s) ≡ d) (c : continues r v ≡ true) (room-left : heldBy r + length d ≤ length room) where
   accepted : joinOf r room s ≡ takenIn r room v d (is (heldBy r + length d))
   unfolding joinOf lengthOf
-  accepted = rw (read, sym (ap (dataIn s) read) ∙ part, c, fitting-is (heldBy r) (length d) (length room) room-left)
+  accepted = rw (read, sym (ap (dataIn s) read) ∙ part, c, extend-is (heldBy r) (length d) (length room) room-left)
 
   pub step-more : bit (v .class .cla) ≡ 1
       → joinOf r room s ≡ record { reply = is none; state = Open (heldOf v (heldBy r + length d)); room = put (heldBy r) d room }
@@ -50,8 +50,8 @@ module _ (h : Held) (room s : List ℕ) (v : CommandView) (read : parse Crate s 
   pub other-header : (SameHeader h v → ⊥) → joinOf (Open h) room s ≡ refusedOf (Open h) room 17
   other-header f = other (continuesOpen h v) refl (λ e. f (continues-same h v e))
 
-  not-17 : (held n m : ℕ) (x : Bool) → ltb m (held + n) ≡ x → fitting held n m ≡ no 17 → ⊥
-  unfolding fitting
+  not-17 : (held n m : ℕ) (x : Bool) → ltb m (held + n) ≡ x → extendOf held n m ≡ no 17 → ⊥
+  unfolding extendOf
   not-17 held n m true q e = let k : _≡_ {A = ℕ} 18 17 = ap status (rw q at e) in omega arith
   not-17 held n m false q e = no-is 17 (held + n) (sym (rw q at e))
 
@@ -63,7 +63,7 @@ module _ (h : Held) (room s : List ℕ) (v : CommandView) (read : parse Crate s 
   unfolding joinOf lengthOf
   same-header t e =
       let d = dataIn s (is v) in
-      taken-not d (fitting (h .len) (length d) (length room)) (not-17 (h .len) (length d) (length room) _ refl)
+      taken-not d (extendOf (h .len) (length d) (length room)) (not-17 (h .len) (length d) (length room) _ refl)
       (rw (read, same-continues h v t) at e)
 
 -- the record behind a piece that leaves the chain open has the header of the pieces before it

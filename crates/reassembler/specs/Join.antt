@@ -12,7 +12,7 @@ use Rattle.class.specs.Chain.{bit, chained}
 use Rattle.class.specs.declared.Class.{Class}
 use Rattle.class.specs.declared.Reading.the-variants.{Crate}
 use Rattle.command.specs.Command.{parse, dataIn}
-use Rattle.command.specs.Owned.{fitting}
+use Rattle.command.specs.Owned.{extendOf}
 use Rattle.command.specs.declared.CommandView.{CommandView}
 use Rattle.command.specs.declared.owned.Command.{Command}
 use Rattle.reassembler.specs.declared.Ending.{Ending}
@@ -69,7 +69,7 @@ commandIn r v n =
 
 -- the joined length with n bytes of this piece in a room of m bytes: 17, then 18
 unfoldable pub lengthOf : Reassembler → CommandView → ℕ → ℕ → Reply ℕ
-lengthOf r v n m = cond (continues r v) (fitting (heldBy r) n m) (no 17)
+lengthOf r v n m = cond (continues r v) (extendOf (heldBy r) n m) (no 17)
 
 -- the chain that is open behind a piece: its header and how many bytes are held
 abbrev pub heldOf : CommandView → ℕ → Held

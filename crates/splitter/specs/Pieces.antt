@@ -9,8 +9,8 @@ use lib.Dec.{ltb}
 use lib.ListN.{length, take, drop}
 use Rattle.basis.specs.Reply.{Reply, is, no, then}
 use Rattle.basis.specs.Part.{put}
-use Rattle.builder.specs.Builder.{within, newOf}
-use Rattle.builder.specs.Bytes.{commandOf, fitting}
+use Rattle.builder.specs.Builder.{unlessLong, newOf}
+use Rattle.builder.specs.Bytes.{commandOf, serializeOf}
 use Rattle.builder.specs.declared.CommandBuilder.{CommandBuilder}
 use Rattle.builder.specs.declared.ExpectedLen.the-variants.{Ne}
 use Rattle.builder.specs.declared.ExtendedLen.the-variants.{Unsupported}
@@ -77,7 +77,7 @@ pieceBy l at n (some s) = record { builder = s .now; at = at; len = s .len; rest
 -- the next piece of what is left, in the data that are handed along
 unfoldable pub leftOf : Left → List ℕ → Reply Piece
 leftOf l d =
-    within (length d)
+    unlessLong (length d)
     (then (stepOf (l .builder) (length (drop (placeIn l d) d)) (l .available))
     (λ s. is (pieceBy l (placeIn l d) (length (drop (placeIn l d) d)) s)))
 
@@ -94,7 +94,7 @@ bytesOf p d = commandOf (p .builder) (take (p .len) (drop (p .at) d))
 abbrev pub writing : Option Piece → List ℕ → ℕ → ℕ → Reply (Option Written)
 writing none d m at = is none
 writing (some p) d m at =
-    then (fitting (p .builder) (take (p .len) (drop (p .at) d)) m at) (λ n. is (some (record { len = n; rest = p .rest })))
+    then (serializeOf (p .builder) (take (p .len) (drop (p .at) d)) m at) (λ n. is (some (record { len = n; rest = p .rest })))
 
 abbrev pub writeOf : Pieces → List ℕ → ℕ → ℕ → Reply (Option Written)
 writeOf c d m at = then (nextOf c d) (λ p. writing p d m at)

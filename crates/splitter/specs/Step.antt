@@ -8,7 +8,7 @@ use lib.Dec.{ltb, leb, eqb}
 use lib.ListN.{length}
 use Rattle.basis.specs.Reply.{Reply, is, no}
 use Rattle.class.specs.Chain.{chained}
-use Rattle.builder.specs.Builder.{within}
+use Rattle.builder.specs.Builder.{unlessLong}
 use Rattle.builder.specs.Bytes.{lcLen, leLen}
 use Rattle.builder.specs.declared.CommandBuilder.{CommandBuilder}
 use Rattle.builder.specs.declared.ExpectedLen.{ExpectedLen}
@@ -67,7 +67,7 @@ laterOf b =
 -- a step for n data bytes and a buffer of m: none where the room covers the data
 unfoldable pub stepOf : CommandBuilder → ℕ → ℕ → Reply (Option Split)
 stepOf b n m =
-    within n
+    unlessLong n
     (cond (ltb m 4) (no 14)
     (cond (leb n (roomOf b n m)) (is none)
     (cond (eqb (roomOf b n m) 0) (no 14) (is (some (record { now = firstOf b; len = roomOf b n m; later = laterOf b }))))))

@@ -9,7 +9,7 @@ use lib.Dec.{ltb, eqb}
 use Rattle.basis.specs.Reply.{is, no}
 use Rattle.class.specs.Class.{fromByte}
 use Rattle.builder.specs.Builder.{newOf}
-use Rattle.builder.specs.Bytes.{isForced, wide, lcSize, leSize, shown, lcLen, leLen}
+use Rattle.builder.specs.Bytes.{isForced, wide, lcSize, leSize, leShown, lcLen, leLen}
 use Rattle.builder.specs.declared.ExpectedLen.{ExpectedLen}
 use Rattle.builder.specs.declared.ExpectedLen.the-variants.{Ne}
 use Rattle.builder.specs.declared.ExtendedLen.{ExtendedLen}
@@ -30,12 +30,12 @@ module _ (b : CommandBuilder) (n : ℕ) where
   -- Lc and Le have at most five bytes together
   pub lengths-few : lcLen b n + leLen b n ≤ 5
   unfolding lcLen leLen lcSize leSize
-  lengths-few = five (eqb n 0) (eqb (shown b) 0) (wide (b .mode) n (shown b))
+  lengths-few = five (eqb n 0) (eqb (leShown b) 0) (wide (b .mode) n (leShown b))
 
   -- Le 0 is omitted
   pub le-none : b .le ≡ Ne 0 → leLen b n ≡ 0
   unfolding leLen leSize
-  le-none h = rw (eq-eqb (shown b) 0 (le-read b .number 0 h (λ _. omega arith)))
+  le-none h = rw (eq-eqb (leShown b) 0 (le-read b .number 0 h (λ _. omega arith)))
 
 either : (x y : Bool) → y ≡ true → cond x true y ≡ true
 either true y h = refl
@@ -67,10 +67,10 @@ lc-cases false false false false h g = omega arith
 pub lc-part : (a b : CommandBuilder) (k n : ℕ) → a .mode ≡ b .mode → a .le ≡ Ne 0 → k ≤ n → lcLen a k ≤ lcLen b n
 unfolding lcLen lcSize
 lc-part a b k n m e h =
-    let none : shown a ≡ 0 = le-read a .number 0 e (λ _. omega arith) in
-    lc-cases (eqb k 0) (eqb n 0) (wide (a .mode) k (shown a)) (wide (b .mode) n (shown b))
+    let none : leShown a ≡ 0 = le-read a .number 0 e (λ _. omega arith) in
+    lc-cases (eqb k 0) (eqb n 0) (wide (a .mode) k (leShown a)) (wide (b .mode) n (leShown b))
     (λ z. eq-eqb k 0 (omega (arith, eqb-true n 0 z)))
-    (λ w. wide-more (b .mode) k n (shown a) (shown b) h (omega arith) (subst (λ (x : ExtendedLen). wide x k (shown a) ≡ true) m w))
+    (λ w. wide-more (b .mode) k n (leShown a) (leShown b) h (omega arith) (subst (λ (x : ExtendedLen). wide x k (leShown a) ≡ true) m w))
 
 -- what `new` replies
 module _ (c i p q n : ℕ) (e : ExpectedLen) (m : ExtendedLen) where

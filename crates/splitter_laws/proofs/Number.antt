@@ -10,7 +10,7 @@ use borrow.Author.Tests.{le-leb, lt-leb}
 use lib.ListN.{length, take, drop, length-take, length-drop, length-map}
 use Rattle.basis.specs.Reply.{Reply, is, no as refused}
 use Rattle.basis.proofs.Reply.{All}
-use Rattle.builder.specs.Bytes.{shown}
+use Rattle.builder.specs.Bytes.{leShown}
 use Rattle.builder.specs.declared.CommandBuilder.{CommandBuilder}
 use Rattle.builder.specs.declared.ExtendedLen.the-variants.{Unsupported}
 use Rattle.builder_laws.proofs.Pieces.{unless-zero-some, unless-zero-le, short-lengths, short-long-length}
@@ -54,7 +54,7 @@ module _ (b : CommandBuilder) (d : List ℕ) (m : ℕ) where
   number-pieces = length-map (parts b d m) pieceOf ∙ number
 
 -- the room in short mode
-pub room-short : (b : CommandBuilder) → b .mode ≡ Unsupported → (n m : ℕ) → roomOf b n m ≡ shortRoom (shown b) n m
+pub room-short : (b : CommandBuilder) → b .mode ≡ Unsupported → (n m : ℕ) → roomOf b n m ≡ shortRoom (leShown b) n m
 unfolding shortRoom
 room-short b mode n m =
     let cap : most (b .mode) ≡ 255 = ap most mode in
@@ -103,25 +103,25 @@ module _ (k e n m : ℕ) where
 
 -- the parts in short mode
 abbrev Sized : ℕ → CommandBuilder → List ℕ → List Part → Type 0
-Sized m b d ps = b .mode ≡ Unsupported → (k : ℕ) → length d < k → map sizeOf ps ≡ shortSizesIn k (shown b) (length d) m
+Sized m b d ps = b .mode ≡ Unsupported → (k : ℕ) → length d < k → map sizeOf ps ≡ shortSizesIn k (leShown b) (length d) m
 
 module _ (m : ℕ) (b : CommandBuilder) (d : List ℕ) where
   sized-whole : length d ≤ roomOf b (length d) m → Sized m b d (record { builder = b; «data» = d } ∷ [])
   sized-whole h mode zero g = absurd (omega arith)
-  sized-whole h mode (suc k) g = sym (sizes-whole k (shown b) (length d) m (omega (arith, room-short b mode (length d) m)))
+  sized-whole h mode (suc k) g = sym (sizes-whole k (leShown b) (length d) m (omega (arith, room-short b mode (length d) m)))
 
   sized-split : (r : ℕ) (ps : List Part) → r ≡ roomOf b (length d) m → 1 ≤ r → r < length d → Sized m (laterOf b) (drop r d) ps
       → Sized m b d (record { builder = firstOf b; «data» = take r d } ∷ ps)
   sized-split r ps e g h f mode zero l = absurd (omega arith)
   sized-split r ps e g h f mode (suc k) l =
-      let room : shortRoom (shown b) (length d) m ≡ r = sym (e ∙ room-short b mode (length d) m) in
+      let room : shortRoom (leShown b) (length d) m ≡ r = sym (e ∙ room-short b mode (length d) m) in
       let left = length-drop r d in
       let size : length (take r d) ≡ r = length-take r d ∙ omega arith in
       let rest = f mode k (omega arith) in
-      sym (sizes-split k (shown b) (length d) m (omega arith) ∙ rw (room, size, rest, left, later-shown b))
+      sym (sizes-split k (leShown b) (length d) m (omega arith) ∙ rw (room, size, rest, left, later-shown b))
 
 pub parts-short : (b : CommandBuilder) (d : List ℕ) (m : ℕ) → 10 ≤ m → length d ≤ 65535 → b .mode ≡ Unsupported
-    → map sizeOf (parts b d m) ≡ shortSizes (shown b) (length d) m
+    → map sizeOf (parts b d m) ≡ shortSizes (leShown b) (length d) m
 parts-short b d m ten few mode =
     cut m ten (Sized m) (sized-whole m) (sized-split m) b d few mode (suc (length d)) (omega arith)
 
@@ -212,7 +212,7 @@ module _ (e m : ℕ) (ten : 10 ≤ m) where
       ]
 
 pub number-short : (b : CommandBuilder) (d : List ℕ) (m : ℕ) → 10 ≤ m → length d ≤ 65535 → b .mode ≡ Unsupported
-    → length (parts b d m) ≡ shortCount (shown b) (length d) m
+    → length (parts b d m) ≡ shortCount (leShown b) (length d) m
 number-short b d m ten few mode =
     sym (length-map (parts b d m) sizeOf) ∙ ap length (parts-short b d m ten few mode)
-    ∙ counted (shown b) m ten (suc (length d)) (length d) (omega arith)
+    ∙ counted (leShown b) m ten (suc (length d)) (length d) (omega arith)

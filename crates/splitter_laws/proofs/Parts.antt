@@ -9,7 +9,7 @@ use lib.ListN.{length, take, drop, take-append-drop, length-take, length-drop}
 use Rattle.class.specs.Chain.{chained}
 use Rattle.class.specs.declared.Reading.{Reading}
 use Rattle.class.proofs.Readings.{chained-ef}
-use Rattle.builder.specs.Bytes.{shown, lcLen, leLen, commandOf}
+use Rattle.builder.specs.Bytes.{leShown, lcLen, leLen, commandOf}
 use Rattle.builder.specs.declared.CommandBuilder.{CommandBuilder}
 use Rattle.builder.specs.declared.ExpectedLen.{ExpectedLen}
 use Rattle.builder.specs.declared.ExpectedLen.the-variants.{Ne, Max}
@@ -94,7 +94,7 @@ module _ (b : CommandBuilder) where
   later-again = ap (with-le b) (lowered-again (b .mode) (b .le))
 
   -- in short mode the rest asks for what is shown
-  lowered-by : b .mode ≡ Unsupported → (e : ExpectedLen) → b .le ≡ e → loweredLen (b .mode) (b .le) ≡ Ne (shown b)
+  lowered-by : b .mode ≡ Unsupported → (e : ExpectedLen) → b .le ≡ e → loweredLen (b .mode) (b .le) ≡ Ne (leShown b)
   lowered-by q (Ne n) p =
       elim (decLe n 256) [
         | yes h ↦
@@ -108,20 +108,20 @@ module _ (b : CommandBuilder) where
       let most : loweredLen (b .mode) (b .le) ≡ Ne 256 = rw (q, p) in
       most ∙ ap Ne (sym (le-read b .most-lowered p q))
 
-  pub later-le : b .mode ≡ Unsupported → laterOf b .le ≡ Ne (shown b)
+  pub later-le : b .mode ≡ Unsupported → laterOf b .le ≡ Ne (leShown b)
   later-le q = lowered-by q (b .le) refl
 
   -- the rest shows the same expected length
-  unlowered : loweredLen (b .mode) (b .le) ≡ b .le → shown (laterOf b) ≡ shown b
+  unlowered : loweredLen (b .mode) (b .le) ≡ b .le → leShown (laterOf b) ≡ leShown b
   unfolding with-le
-  unlowered h = ap (λ (e : ExpectedLen). shown (with-le b e)) h
+  unlowered h = ap (λ (e : ExpectedLen). leShown (with-le b e)) h
 
-  shown-by : (m : ExtendedLen) → b .mode ≡ m → shown (laterOf b) ≡ shown b
-  shown-by Unsupported q = le-read (laterOf b) .number (shown b) (later-le q) (λ _. shown-short b q)
+  shown-by : (m : ExtendedLen) → b .mode ≡ m → leShown (laterOf b) ≡ leShown b
+  shown-by Unsupported q = le-read (laterOf b) .number (leShown b) (later-le q) (λ _. shown-short b q)
   shown-by Supported q = unlowered (rw q)
   shown-by Forced q = unlowered (rw q)
 
-  pub later-shown : shown (laterOf b) ≡ shown b
+  pub later-shown : leShown (laterOf b) ≡ leShown b
   later-shown = shown-by (b .mode) refl
 
 -- parts before the last and a last one

@@ -8,7 +8,7 @@ use borrow.Author.Tests.{leb-true, eqb-true}
 use lib.Dec.{leb, eqb}
 use lib.ListN.{length, length-map}
 use Rattle.basis.proofs.Truth.{both}
-use Rattle.builder.specs.Bytes.{shown, commandOf}
+use Rattle.builder.specs.Bytes.{leShown, commandOf}
 use Rattle.builder.specs.declared.CommandBuilder.{CommandBuilder}
 use Rattle.builder.specs.declared.ExpectedLen.the-variants.{Ne}
 use Rattle.builder.specs.declared.ExtendedLen.the-variants.{Unsupported}
@@ -52,7 +52,7 @@ case c h b d mode le len =
     let low = both (leb (c .le) 256) _ h in
     let few = both (leb (c .len) 65535) _ (low .1) in
     let ten = both (leb 10 (c .buffer)) _ (few .1) in
-    let shows : shown b ≡ c .le = le-read b .number (c .le) le (λ _. leb-true (c .le) 256 (low .0)) in
+    let shows : leShown b ≡ c .le = le-read b .number (c .le) le (λ _. leb-true (c .le) 256 (low .0)) in
     parts-short b d (c .buffer) (leb-true 10 (c .buffer) (ten .0)) (omega (arith, leb-true (c .len) 65535 (few .0))) mode
     ∙ rw (shows, len) (same-is (shortSizes (c .le) (c .len) (c .buffer)) (c .sizes) (ten .1))
 
@@ -72,7 +72,7 @@ full : (b : CommandBuilder) (d : List ℕ) → b .mode ≡ Unsupported → b .le
     → map length (piecesOf b d 261) ≡ 261 ∷ []
 unfolding unlessZero shortLen
 full b d mode le len =
-    let shows : shown b ≡ 256 = le-read b .number 256 le (λ _. omega arith) in
+    let shows : leShown b ≡ 256 = le-read b .number 256 le (λ _. omega arith) in
     let size : length (commandOf b d) ≡ 261 = short-length b mode d (omega arith) ∙ rw (shows, len) in
     rw (unsplit b d 261 (λ _. omega arith) (omega arith) (omega arith), size)
 

@@ -9,7 +9,7 @@ use lib.ListN.{length, take, drop, length-take, length-drop}
 use Rattle.basis.specs.Reply.{is}
 use Rattle.basis.specs.Part.{over}
 use Rattle.basis.proofs.Part.{put-zero}
-use Rattle.builder.specs.Bytes.{fitting}
+use Rattle.builder.specs.Bytes.{serializeOf}
 use Rattle.builder.proofs.Fitting.{fits}
 use Rattle.builder.proofs.Lengths.{length-command}
 use Rattle.splitter.specs.Pieces.{nextOf, bytesOf, writeOf, pieceIn, bufferAfter}
@@ -21,7 +21,7 @@ module _ (c : Pieces) (d buffer : List ℕ) (p : Piece) (few : length d ≤ 6553
   abbrev part : List ℕ
   part = take (p .len) (drop (p .at) d)
 
-  fitted : fitting (p .builder) part (length buffer) 0 ≡ is (length (bytesOf p d))
+  fitted : serializeOf (p .builder) part (length buffer) 0 ≡ is (length (bytesOf p d))
   fitted =
       let size : length part ≤ 65535 = omega (arith, length-take (p .len) (drop (p .at) d), length-drop (p .at) d) in
       let long = length-command (p .builder) part in

@@ -7,7 +7,7 @@ use Rattle.basis.specs.Reply.{no}
 use Rattle.class.specs.Chain.{bit}
 use Rattle.class.specs.declared.Reading.{Reading}
 use Rattle.command.specs.Command.{parse}
-use Rattle.builder.specs.Bytes.{shown}
+use Rattle.builder.specs.Bytes.{leShown}
 use Rattle.builder.specs.declared.CommandBuilder.{CommandBuilder}
 use Rattle.builder.specs.declared.ExpectedLen.the-variants.{Ne}
 use Rattle.builder.specs.declared.ExtendedLen.the-variants.{Unsupported}
@@ -38,8 +38,8 @@ lastOf b (p ∷ ps) = laterOf b
 pub record Last (b : CommandBuilder) (d : List ℕ) (fronts : List Part) (p : Part) : Type 0 where
   pub builder : p .builder ≡ lastOf b fronts
   pub class : p .builder .class ≡ b .class
-  pub le : b .mode ≡ Unsupported → (fronts ≡ [] → ⊥) → p .builder .le ≡ Ne (shown b)
-  pub shows : shown (p .builder) ≡ shown b
+  pub le : b .mode ≡ Unsupported → (fronts ≡ [] → ⊥) → p .builder .le ≡ Ne (leShown b)
+  pub shows : leShown (p .builder) ≡ leShown b
   pub some : 1 ≤ length d → 1 ≤ length (p .«data»)
   pub few : length (p .«data») ≤ most (b .mode)
 

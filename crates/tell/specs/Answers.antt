@@ -23,14 +23,14 @@ abbrev pub fitting : {A : Type 0} → ℕ → ℕ → Reply A → Reply A
 fitting m n x = cond (ltb n m) (short x) x
 
 -- the slice after a reply
-abbrev pub written : Reply (List ℕ) → List ℕ → List ℕ
-written (is vs) out = over vs out
-written (no k) out = out
+abbrev pub outAfter : Reply (List ℕ) → List ℕ → List ℕ
+outAfter (is vs) out = over vs out
+outAfter (no k) out = out
 
 -- the promise of a function that hands out the m numbers of a reply
 pub record Answers (m : ℕ) (x : Reply (List ℕ)) (out : List ℕ) (r : ℕ) (after : List ℕ) : Type 0 where
   pub reply : r ≡ status (fitting m (length out) x)
-  pub told : after ≡ written (fitting m (length out) x) out
+  pub told : after ≡ outAfter (fitting m (length out) x) out
 
 -- bytes d copied to the front of a slice of m, their count told in a slice of n: 16 where either is too short
 abbrev pub counted : ℕ → ℕ → ℕ → Reply (List ℕ)
@@ -44,7 +44,7 @@ front (no k) d to = to
 pub record Copied (d to out : List ℕ) (r : ℕ) (to′ out′ : List ℕ) : Type 0 where
   pub reply : r ≡ status (counted (length d) (length to) (length out))
   pub bytes : to′ ≡ front (counted (length d) (length to) (length out)) d to
-  pub told : out′ ≡ written (counted (length d) (length to) (length out)) out
+  pub told : out′ ≡ outAfter (counted (length d) (length to) (length out)) out
 
 -- a truth value, and a number that may be missing: 256 where it is
 abbrev pub flagOf : Bool → ℕ

@@ -21,7 +21,7 @@ use Rattle.tlv.specs.declared.Reading.{Reading}
 use Rattle.tlv.specs.declared.Reading.the-variants.{Crate, Standard}
 use Rattle.tlv.proofs.Within.{Tagged, tag-within}
 use Rattle.tlv.proofs.Walk.{seek-here}
-use Rattle.tlv_write.specs.Written.{tagBytes, lenBytes, objectBytes, fitting, said, put-data-object-is}
+use Rattle.tlv_write.specs.Written.{tagBytes, lenBytes, objectBytes, putOf, said, put-data-object-is}
 use Rattle.tlv_write.specs.declared.PutDataObject.{PutDataObject}
 use Rattle.tlv_laws.specs.Back.{Bytes, written, objectFor, ReadsBack}
 use Rattle.tlv_laws.proofs.Choice.{on-cond}
@@ -159,8 +159,8 @@ written-found r s bytes t e v u h =
 abbrev Fits : ℕ → ℕ → List ℕ → List ℕ → ℕ → Type 0
 Fits at m t v n = (length v ≤ 65535) × (at + length (objectBytes t v) ≤ m) × (n ≡ length (objectBytes t v))
 
-fitted : (at m : ℕ) (t v : List ℕ) → All (Fits at m t v) (fitting at m t v)
-unfolding fitting
+fitted : (at m : ℕ) (t v : List ℕ) → All (Fits at m t v) (putOf at m t v)
+unfolding putOf
 fitted at m t v =
     let P = Fits at m t v in
     all-cond P (ltb 65535 (length v)) _ _ (λ _. tt) (λ a.
@@ -175,8 +175,8 @@ put-read r s bytes t e v buffer after at n x put k =
     let b = be 3 (t .number) in
     let w = written (t .number) v in
     let m = length buffer in
-    let f : fitting at m b v ≡ is n = sym (put .reply) ∙ k in
-    let c = all-is (Fits at m b v) (fitting at m b v) n (fitted at m b v) f in (
+    let f : putOf at m b v ≡ is n = sym (put .reply) ∙ k in
+    let c = all-is (Fits at m b v) (putOf at m b v) n (fitted at m b v) f in (
       rw (put .buffer, f, c .2) (drop-at (take at buffer) (w ++ drop (at + length w) buffer) at
           (length-take-le at buffer (omega arith))),
       written-read r s bytes t e v (drop (at + n) buffer) (c .0),

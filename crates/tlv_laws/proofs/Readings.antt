@@ -17,7 +17,7 @@ use Rattle.tlv.specs.Object.{sizeOf, objectOf}
 use Rattle.tlv.specs.Lookup.{Span, part, whole, seekIn, seek, follow, lookup}
 use Rattle.tlv.proofs.Among.{inside, below, above}
 use Rattle.tlv.specs.declared.Reading.the-variants.{Crate, Standard}
-use Rattle.tlv_laws.specs.Readings.{partsTwo, partsThree, parts, meetsIn, meetsAt, meetsFrom, meets}
+use Rattle.tlv_laws.specs.Readings.{partsTwo, partsThree, tagParts, meetsIn, meetsAt, meetsFrom, meets}
 use Rattle.tlv_laws.specs.Value.{ofValue}
 use Rattle.tlv_laws.proofs.Choice.{by-test, same-cond, neither, second, not-true-false, all-self}
 
@@ -115,8 +115,8 @@ threes-crate b h =
 
 module _ (s : List ℕ) where
   -- where the readings do not part they read one tag
-  pub tags-alike : parts s ≡ false → tagOf Crate s ≡ tagOf Standard s
-  unfolding parts tagOf longTag threeBytes sizeBy thirdBy
+  pub tags-alike : tagParts s ≡ false → tagOf Crate s ≡ tagOf Standard s
+  unfolding tagParts tagOf longTag threeBytes sizeBy thirdBy
   tags-alike e =
       let b2 = getD s 1 0 in
       same-cond (ltb (length s) 1) _ _ _ _ (λ _. refl) (λ _.
@@ -159,8 +159,8 @@ module _ (s : List ℕ) where
         rw (some, f, h, sym (two-alike (getD s 1 0) e) ∙ three, g, d .1) in
         no-is 12 _ (sym left ∙ sym q ∙ taken)
 
-  tags-part : parts s ≡ true → tagOf Crate s ≡ tagOf Standard s → ⊥
-  unfolding parts
+  tags-part : tagParts s ≡ true → tagOf Crate s ≡ tagOf Standard s → ⊥
+  unfolding tagParts
   tags-part e q =
       let n = second (ltb (length s) 2) _ e in
       let m = both (eqb (getD s 0 0 % 32) 31) _ (n .1) in
@@ -169,10 +169,10 @@ module _ (s : List ℕ) where
       let g = second (ltb (length s) 3) (partsThree (getD s 2 0)) (a .1) in
       part-three (n .0) (m .0) q h (a .0) (g .0) (g .1))
 
-  pub tags-differ : Differ (parts s ≡ true) (tagOf Crate s) (tagOf Standard s)
-  tags-differ = record { differ = tags-part; equal = λ h. tags-alike (not-true-false (parts s) h) }
+  pub tags-differ : Differ (tagParts s ≡ true) (tagOf Crate s) (tagOf Standard s)
+  tags-differ = record { differ = tags-part; equal = λ h. tags-alike (not-true-false (tagParts s) h) }
 
-  pub objects-alike : parts s ≡ false → objectOf Crate s ≡ objectOf Standard s
+  pub objects-alike : tagParts s ≡ false → objectOf Crate s ≡ objectOf Standard s
   unfolding objectOf
   objects-alike e = rw (tags-alike e)
 
@@ -181,7 +181,7 @@ walk-alike : (n t a : ℕ) (s : List ℕ) → meetsIn n t s ≡ false → seekIn
 unfolding meetsIn seekIn
 walk-alike zero t a s e = refl
 walk-alike (suc n) t a s e =
-    let m = neither (parts s) _ e in
+    let m = neither (tagParts s) _ e in
     rw (← objects-alike s (m .0))
     (then-same (λ o. objectOf Crate s ≡ is o) (objectOf Crate s) _ _ (all-self (objectOf Crate s)) (λ o q.
     same-cond (eqb (o .tag) t) _ _ _ _ (λ _. refl) (λ h.

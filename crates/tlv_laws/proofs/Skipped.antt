@@ -22,7 +22,7 @@ use Rattle.tlv_laws.specs.Value.{ofValue}
 use Rattle.basis.specs.Every.{Every}
 use Rattle.basis.proofs.Every.{every-append, every-weaken}
 use Rattle.tlv_laws.specs.Skipped.{valueAt, passedIn, passedAt, passedFrom, passed, lastFrom, lastEntered, past}
-use Rattle.tlv_laws.specs.Skipped.{covers, within, fillIn, behind, aside, refill, seen}
+use Rattle.tlv_laws.specs.Skipped.{covers, coveredBy, fillIn, behind, aside, refill, seen}
 use Rattle.tlv_laws.proofs.Choice.{by-test, by-reply, on-cond, same-cond, neither, second, all-self, all-both}
 use Rattle.tlv_laws.proofs.Front.{object-front}
 use Rattle.tlv_laws.proofs.Behind.{follow-inside}
@@ -69,16 +69,16 @@ covers-behind : (q : Span) (i : ℕ) → q .at + q .len ≤ i → covers q i ≡
 unfolding covers
 covers-behind q i h = rw (le-leb (q .at) i (omega arith), le-ltb i (q .at + q .len) h)
 
-within-none : (qs : List Span) (i : ℕ) → Every (λ q. covers q i ≡ false) qs → within qs i ≡ false
-unfolding within
+within-none : (qs : List Span) (i : ℕ) → Every (λ q. covers q i ≡ false) qs → coveredBy qs i ≡ false
+unfolding coveredBy
 within-none [] i h = refl
 within-none (q ∷ qs) i h = rw (h .0) (within-none qs i (h .1))
 
-within-append : (xs ys : List Span) (i : ℕ) → within xs i ≡ false → within ys i ≡ false → within (xs ++ ys) i ≡ false
-unfolding within
+within-append : (xs ys : List Span) (i : ℕ) → coveredBy xs i ≡ false → coveredBy ys i ≡ false → coveredBy (xs ++ ys) i ≡ false
+unfolding coveredBy
 within-append [] ys i h g = g
 within-append (q ∷ qs) ys i h g =
-    let n = neither (covers q i) (within qs i) h in
+    let n = neither (covers q i) (coveredBy qs i) h in
     rw (n .0) (within-append qs ys i (n .1) g)
 
 -- a part that ends at a place or before it
@@ -131,16 +131,16 @@ module _ (r : Reading) (t : ℕ) where
 
   -- a place that this level looks at: outside of what is passed over, and before the value found
   abbrev Looked : ℕ → ℕ → List ℕ → ℕ → Type 0
-  Looked n a s i = (within (passedIn n r t a s) i ≡ false) × All (λ p. i < p .at) (seekIn n r t a s)
+  Looked n a s i = (coveredBy (passedIn n r t a s) i ≡ false) × All (λ p. i < p .at) (seekIn n r t a s)
 
   -- it looks at a front that is no object, at an object's tag and length, and at what it looks at further on
   looked-no : (n a : ℕ) (s : List ℕ) (k i : ℕ) → objectOf r s ≡ refused k → Looked (suc n) a s i
-  unfolding seekIn passedIn within
+  unfolding seekIn passedIn coveredBy
   looked-no n a s k i e = rw e (refl, tt)
 
   module _ (n a : ℕ) (s : List ℕ) (o : Object) (i : ℕ) (e : objectOf r s ≡ is o) where
     looked-head : i < a + o .at → Looked (suc n) a s i
-    unfolding seekIn passedIn within
+    unfolding seekIn passedIn coveredBy
     looked-head h =
         let k = sizeOf o in
         let d = drop k s in
@@ -154,7 +154,7 @@ module _ (r : Reading) (t : ℕ) where
         )))
 
     looked-rest : eqb (o .tag) t ≡ false → a + sizeOf o ≤ i → Looked n (a + sizeOf o) (drop (sizeOf o) s) i → Looked (suc n) a s i
-    unfolding seekIn passedIn within
+    unfolding seekIn passedIn coveredBy
     looked-rest g h l = rw (e, g, covers-behind (valueAt a o) i (omega arith)) l
 
   -- bytes that agree wherever this level looks
@@ -259,11 +259,11 @@ module _ (r : Reading) (s : List ℕ) where
   -- a place that the path from p on looks at: one that its first level looks at, or a deeper one
   abbrev LookedFrom : Span → List ℕ → ℕ → Type 0
   LookedFrom p path i =
-      (within (passedFrom r s p path) i ≡ false) × (i < past (lastFrom r s p path)) × All (λ q. i < q .at) (follow r s p path)
+      (coveredBy (passedFrom r s p path) i ≡ false) × (i < past (lastFrom r s p path)) × All (λ q. i < q .at) (follow r s p path)
 
   module _ (p : Span) (t : ℕ) (path : List ℕ) (i : ℕ) where
     looked-level : i < past p → Looked r t (length (part s p)) (p .at) (part s p) i → LookedFrom p (t ∷ path) i
-    unfolding follow passedFrom passedAt seek within lastFrom
+    unfolding follow passedFrom passedAt seek coveredBy lastFrom
     looked-level h l =
         let x = seek r t (p .at) (part s p) in
         let here = passedAt r t (p .at) (part s p) in
@@ -330,7 +330,7 @@ length-fill f qs a [] = refl
 length-fill f qs a (b ∷ s) = ap suc (length-fill f qs (suc a) s)
 
 pub byte-fill : (f : ℕ → ℕ) (qs : List Span) (a : ℕ) (s : List ℕ) (i : ℕ) → i < length s
-    → getD (fillIn f qs a s) i 0 ≡ cond (within qs (a + i)) (f (a + i)) (getD s i 0)
+    → getD (fillIn f qs a s) i 0 ≡ cond (coveredBy qs (a + i)) (f (a + i)) (getD s i 0)
 unfolding fillIn
 byte-fill f qs a [] i h = absurd (omega arith)
 byte-fill f qs a (b ∷ s) zero h = rw add-zero
@@ -338,17 +338,17 @@ byte-fill f qs a (b ∷ s) (suc i) h = rw (byte-fill f qs (suc a) s i (omega ari
 
 -- a place that a lookup looks at is not left aside, and neither is a place of the value found
 module _ (r : Reading) (s path : List ℕ) where
-  seen-stays : (i : ℕ) → seen r s path i ≡ true → within (aside r s path) i ≡ false
-  unfolding within
+  seen-stays : (i : ℕ) → seen r s path i ≡ true → coveredBy (aside r s path) i ≡ false
+  unfolding coveredBy
   seen-stays i h =
-      let g = second (within (passed r s path) i) _ h in
+      let g = second (coveredBy (passed r s path) i) _ h in
       let ahead : i < past (lastEntered r s path) = by-reply (lookup r s path)
       (λ p e. rw (last-found r s path p e) (omega (arith, ltb-true i (p .at) (rw e at (g .1)))))
       (λ k e. ltb-true i (past (lastEntered r s path)) (rw e at (g .1))) in
       rw (covers-ahead (behind r s path) i ahead) (g .0)
 
-  found-stays : (p : Span) → lookup r s path ≡ is p → (i : ℕ) → p .at ≤ i → i < past p → within (aside r s path) i ≡ false
-  unfolding within
+  found-stays : (p : Span) → lookup r s path ≡ is p → (i : ℕ) → p .at ≤ i → i < past p → coveredBy (aside r s path) i ≡ false
+  unfolding coveredBy
   found-stays p e i h g =
       rw (covers-ahead (behind r s path) i (rw (last-found r s path p e) g))
       (within-none (passed r s path) i (every-weaken (λ q. covers q i ≡ false) (Before p) (passed r s path)
@@ -360,7 +360,7 @@ module _ (f : ℕ → ℕ) (r : Reading) (s path : List ℕ) where
   refilled-length = length-fill f (aside r s path) 0 s
 
   -- the bytes of all that is left aside are those of f, all others stay
-  pub refilled-byte : (i : ℕ) → i < length s → getD (refill f r s path) i 0 ≡ cond (within (aside r s path) i) (f i) (getD s i 0)
+  pub refilled-byte : (i : ℕ) → i < length s → getD (refill f r s path) i 0 ≡ cond (coveredBy (aside r s path) i) (f i) (getD s i 0)
   refilled-byte i h = rw zero-add at (byte-fill f (aside r s path) 0 s i h)
 
   -- whatever bytes stand in the values passed over and behind the part entered last, the lookup is the same

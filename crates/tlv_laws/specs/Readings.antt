@@ -19,8 +19,8 @@ unfoldable pub partsThree : ℕ → Bool
 partsThree b = cond (eqb b 0x80) true (leb 0xFF b)
 
 -- a tag on which the readings part: its second byte is one of those, or it is from 81 to FE and there is such a third byte
-unfoldable pub parts : List ℕ → Bool
-parts s =
+unfoldable pub tagParts : List ℕ → Bool
+tagParts s =
     cond (ltb (length s) 2) false
     (cond (eqb (getD s 0 0 % 32) 31)
     (cond (partsTwo (getD s 1 0)) true
@@ -32,7 +32,7 @@ parts s =
 unfoldable pub meetsIn : ℕ → ℕ → List ℕ → Bool
 meetsIn zero t s = false
 meetsIn (suc n) t s =
-    cond (parts s) true (ofValue (objectOf Crate s) false (λ o. cond (eqb (o .tag) t) false (meetsIn n t (drop (sizeOf o) s))))
+    cond (tagParts s) true (ofValue (objectOf Crate s) false (λ o. cond (eqb (o .tag) t) false (meetsIn n t (drop (sizeOf o) s))))
 
 unfoldable pub meetsAt : ℕ → List ℕ → Bool
 meetsAt t s = meetsIn (length s) t s

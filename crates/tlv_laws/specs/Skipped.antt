@@ -51,14 +51,14 @@ past p = p .at + p .len
 unfoldable pub covers : Span → ℕ → Bool
 covers q i = cond (leb (q .at) i) (ltb i (q .at + q .len)) false
 
-unfoldable pub within : List Span → ℕ → Bool
-within [] i = false
-within (q ∷ qs) i = cond (covers q i) true (within qs i)
+unfoldable pub coveredBy : List Span → ℕ → Bool
+coveredBy [] i = false
+coveredBy (q ∷ qs) i = cond (covers q i) true (coveredBy qs i)
 
 -- bytes s that start at place a, with other bytes in those parts: at each place the one that f has for it
 unfoldable pub fillIn : (ℕ → ℕ) → List Span → ℕ → List ℕ → List ℕ
 fillIn f qs a [] = []
-fillIn f qs a (b ∷ s) = cond (within qs a) (f a) b ∷ fillIn f qs (suc a) s
+fillIn f qs a (b ∷ s) = cond (coveredBy qs a) (f a) b ∷ fillIn f qs (suc a) s
 
 -- what lies behind the part entered last; all that the lookup leaves aside: that, and the values passed over
 abbrev pub behind : Reading → List ℕ → List ℕ → Span
@@ -75,4 +75,4 @@ refill f r s path = fillIn f (aside r s path) 0 s
 -- end of the part entered last
 abbrev pub seen : Reading → List ℕ → List ℕ → ℕ → Bool
 seen r s path i =
-    cond (within (passed r s path) i) false (ltb i (ofValue (lookup r s path) (past (lastEntered r s path)) (λ p. p .at)))
+    cond (coveredBy (passed r s path) i) false (ltb i (ofValue (lookup r s path) (past (lastEntered r s path)) (λ p. p .at)))

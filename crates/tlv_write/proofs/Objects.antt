@@ -6,14 +6,14 @@ use native.Mathlib.Omega.{arith}
 use borrow.Author.Tests.{lt-ltb, le-ltb}
 use lib.ListN.{length, length-append}
 use Rattle.basis.specs.Part.{put}
-use Rattle.tlv_write.specs.Written.{tagBytes, lenBytes, objectBytes, fitting, put-data-object-is}
+use Rattle.tlv_write.specs.Written.{tagBytes, lenBytes, objectBytes, putOf, put-data-object-is}
 use Rattle.tlv_write.specs.Shown.{shown, Shows}
 use Rattle.tlv_write.specs.declared.PutDataObject.the-variants.{Written, Refused}
 use Rattle.tlv_write.specs.declared.Serialized.{Serialized}
 
 module _ (t v b : List ℕ) (at : ℕ) where
   pub too-long : 65535 < length v → put-data-object-is t v b at (Refused 19) b
-  unfolding fitting
+  unfolding putOf
   too-long h = let n = lt-ltb 65535 (length v) h in record { reply = rw n; buffer = rw n }
 
   -- a value that may be written, by its tag and length as they are written
@@ -23,7 +23,7 @@ module _ (t v b : List ℕ) (at : ℕ) where
     size = simp length-append (omega (arith, tag .count, len .count))
 
     pub no-room : length b < at + (p .len + q .len + length v) → put-data-object-is t v b at (Refused 16) b
-    unfolding fitting
+    unfolding putOf
     no-room g =
         let n = le-ltb 65535 (length v) h in
         let m = lt-ltb _ _ g in
@@ -31,7 +31,7 @@ module _ (t v b : List ℕ) (at : ℕ) where
 
     pub written : (after : List ℕ) → at + (p .len + q .len + length v) ≤ length b → after ≡ put at ((shown p ++ shown q) ++ v) b
         → put-data-object-is t v b at (Written (p .len + q .len + length v)) after
-    unfolding fitting objectBytes
+    unfolding putOf objectBytes
     written after g e =
         let n = le-ltb 65535 (length v) h in
         let m = le-ltb _ _ g in

@@ -27,8 +27,8 @@ unfoldable pub objectBytes : List ℕ → List ℕ → List ℕ
 objectBytes t v = (tagBytes t ++ lenBytes (length v)) ++ v
 
 -- how many bytes are written from a place of a buffer of m bytes: 19 before 16
-unfoldable pub fitting : ℕ → ℕ → List ℕ → List ℕ → Reply ℕ
-fitting at m t v =
+unfoldable pub putOf : ℕ → ℕ → List ℕ → List ℕ → Reply ℕ
+putOf at m t v =
     cond (ltb 65535 (length v)) (no 19)
     (cond (ltb m (at + length (objectBytes t v))) (no 16) (is (length (objectBytes t v))))
 
@@ -43,5 +43,5 @@ said (put-data-object.Refused k) = no k
 
 -- the promise of `put_data_object`
 pub record put-data-object-is (t v b : List ℕ) (at : ℕ) (x : PutDataObject) (after : List ℕ) : Type 0 where
-  pub reply : said x ≡ fitting at (length b) t v
-  pub buffer : after ≡ bufferAfter (fitting at (length b) t v) at t v b
+  pub reply : said x ≡ putOf at (length b) t v
+  pub buffer : after ≡ bufferAfter (putOf at (length b) t v) at t v b

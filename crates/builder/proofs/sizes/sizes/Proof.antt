@@ -1,10 +1,10 @@
 use borrow.Author.Needs.{needs}
-use Rattle.builder.specs.Bytes.{shown, lcLen, leLen}
+use Rattle.builder.specs.Bytes.{leShown, lcLen, leLen}
 use Rattle.builder.proofs.sizes.sizes.Statement.{statement}
 use Rattle.builder.proofs.sizes.sizes.Tie as tie
 
 returns : tie.Need-returns
-unfolding shown lcLen leLen
+unfolding leShown lcLen leLen
 returns c =
     let l = c .before in
     let w = l .before in

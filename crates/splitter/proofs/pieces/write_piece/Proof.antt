@@ -4,7 +4,7 @@ use Prim.Native.Nat.{ℕ, _+_, _-_}
 use native.Mathlib.Nat.{add-sub-cancel-left}
 use mathlib.Core.List.{List}
 use lib.ListN.{length, take, drop}
-use Rattle.builder.specs.Bytes.{said, fitting, bufferAfter}
+use Rattle.builder.specs.Bytes.{said, serializeOf, bufferAfter}
 use Rattle.builder.specs.declared.sizes.Length.{Length}
 use Rattle.splitter.proofs.pieces.write_piece.Statement.{statement}
 use Rattle.splitter.proofs.pieces.write_piece.Tie as tie
@@ -25,19 +25,19 @@ lent c =
 
 -- what was replied and what the buffer holds, by the answer
 wrote : (c : tie.After-serialize-into) (x : Length) → c .serialize-into .result ≡ x
-    → fitting (start c .args .piece .builder) (bytes c) (length (start c .args .buffer .now)) (start c .args .at) ≡ said x
+    → serializeOf (start c .args .piece .builder) (bytes c) (length (start c .args .buffer .now)) (start c .args .at) ≡ said x
 wrote c x e =
     let a = start c .args in
-    ap (λ (s : List ℕ). fitting (a .piece .builder) s (length (a .buffer .now)) (a .at)) (sym (lent c))
+    ap (λ (s : List ℕ). serializeOf (a .piece .builder) s (length (a .buffer .now)) (a .at)) (sym (lent c))
     ∙ sym (c .serialize-into .ensures .reply) ∙ ap said e
 
 left : (c : tie.After-serialize-into) → let a = start c .args in
     c .serialize-into .last .1 .1 .0
-    ≡ bufferAfter (fitting (a .piece .builder) (bytes c) (length (a .buffer .now)) (a .at)) (a .piece .builder) (bytes c) (a .buffer .now) (a .at)
+    ≡ bufferAfter (serializeOf (a .piece .builder) (bytes c) (length (a .buffer .now)) (a .at)) (a .piece .builder) (bytes c) (a .buffer .now) (a .at)
 left c =
     let a = start c .args in
     c .serialize-into .ensures .buffer
-    ∙ ap (λ (s : List ℕ). bufferAfter (fitting (a .piece .builder) s (length (a .buffer .now)) (a .at)) (a .piece .builder) s (a .buffer .now) (a .at))
+    ∙ ap (λ (s : List ℕ). bufferAfter (serializeOf (a .piece .builder) s (length (a .buffer .now)) (a .at)) (a .piece .builder) s (a .buffer .now) (a .at))
     (lent c)
 
 returns : tie.Need-returns
