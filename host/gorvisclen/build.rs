@@ -13,7 +13,7 @@ fn fail(said: String) -> ! {
 fn archives(folder: &Path) -> Vec<String> {
     let entries = fs::read_dir(folder).unwrap_or_else(|error| {
         fail(format!(
-            "{}: {error}: `rt staticlib NAME` writes an archive there",
+            "{}: {error}: host/archives writes the archives there",
             folder.display()
         ))
     });
@@ -39,7 +39,7 @@ fn main() {
     let archives = archives(&folder);
     if archives.is_empty() {
         fail(format!(
-            "no libexports*.a in {}: `rt staticlib NAME` writes one",
+            "no libexports*.a in {}: host/archives writes them",
             folder.display()
         ));
     }
