@@ -141,3 +141,17 @@ impl fmt::Display for Outcome {
         write!(f, "; to {}; read {}", hex(&self.to.whole), hex(&self.read))
     }
 }
+
+/// Places from which `need` bytes do not fit a buffer that ends behind those from the place `before` on, some so large that a sum wraps.
+pub fn places_past(before: usize, need: usize) -> [usize; 7] {
+    let exact = before + need;
+    [
+        exact,
+        exact + 1,
+        exact + 65_536,
+        before + (1 << 32),
+        usize::MAX,
+        (usize::MAX - need).wrapping_add(1),
+        (usize::MAX - need).wrapping_add(1 + before),
+    ]
+}

@@ -10,6 +10,7 @@ use std::hint::black_box;
 
 use gorvisclen::{EXPECTED_MAX, SPLIT_NUMBERS};
 
+use crate::builder::Asked;
 use crate::inputs::Inputs;
 use crate::tally::Tally;
 
@@ -86,7 +87,7 @@ fn every_boundary(tally: &mut Tally, inputs: &mut Inputs) {
         for available in buffers() {
             for le in EXPECTED {
                 for mode in 0..3 {
-                    let asked = steps::Asked::new(some_header(inputs), le, mode, &row[..n]);
+                    let asked = Asked::new(some_header(inputs), le, mode, &row[..n]);
                     let len = SPLIT_NUMBERS + inputs.below(2);
                     asked.step(tally, available, len, n < 300);
                     if inputs.below(8) == 0 {
@@ -109,7 +110,7 @@ fn every_small_step(tally: &mut Tally, inputs: &mut Inputs) {
         for le in [0, 1, 256, 257] {
             let header = HEADERS[inputs.below(6)];
             for n in 0..=300 {
-                let asked = steps::Asked::new(header, le, mode, &row[..n]);
+                let asked = Asked::new(header, le, mode, &row[..n]);
                 for available in 10..=300 {
                     asked.step(tally, available, SPLIT_NUMBERS, false);
                 }
@@ -121,7 +122,7 @@ fn every_small_step(tally: &mut Tally, inputs: &mut Inputs) {
             }
         }
         for le in [0, 256, EXPECTED_MAX] {
-            let asked = steps::Asked::new(HEADERS[1], le, mode, &row);
+            let asked = Asked::new(HEADERS[1], le, mode, &row);
             for available in 0..=65_545 {
                 asked.step(tally, available, SPLIT_NUMBERS, false);
             }
@@ -138,7 +139,7 @@ fn every_class_and_mode(tally: &mut Tally, inputs: &mut Inputs) {
                 let le = some_expected(inputs);
                 let header = [byte, byte ^ 0x55, byte.wrapping_add(1), 0];
                 for mode in [0, 1, 2, byte] {
-                    let asked = steps::Asked::new(header, le, mode, &row[..n]);
+                    let asked = Asked::new(header, le, mode, &row[..n]);
                     asked.step(tally, available, SPLIT_NUMBERS, true);
                 }
                 let asked = chains::Asked::new(header, &row[..n], le as u16, available);
@@ -158,7 +159,7 @@ pub fn random_step(tally: &mut Tally, inputs: &mut Inputs) {
     };
     let (header, le) = (some_header(inputs), some_expected(inputs));
     let start = inputs.below(row.len() - n + 1);
-    let asked = steps::Asked::new(header, le, mode, &row[start..start + n]);
+    let asked = Asked::new(header, le, mode, &row[start..start + n]);
     let (available, len) = (some_len(inputs), inputs.below(SPLIT_NUMBERS + 2));
     asked.step(tally, available, len, n < 700);
     if available > 12 && n < 700 {

@@ -98,6 +98,7 @@ impl Record {
     }
 
     /// Forgets an open chain: the six numbers of the record after it. Refusal, of every record: 16.
+    #[inline]
     pub fn reset(self, out: &mut [u64]) -> Reply {
         let [class, instruction, p1, p2] = self.header;
         reply(unsafe {
@@ -117,6 +118,7 @@ impl Record {
 
 /// Copies the data of a joined command, the first `len` bytes of `room`, or all where it has fewer, to the front of `to`. Writes
 /// one number: how many they are. Refusal: 16.
+#[inline]
 pub fn joined_data(len: usize, room: &[u8], to: &mut [u8], out: &mut [u64]) -> Reply {
     reply(unsafe {
         gorvisclen_joined_data(

@@ -32,6 +32,7 @@ extern "C" {
 /// given back last, or zeros: class byte, instruction byte, P1, P2, the length of its data, the expected length, and whether it is
 /// extended, 0 or 1. `buffer` and `room` are left as the run left them: a piece whose join was refused stands in `buffer`.
 /// Refusals: 3, 13, 14 of the chain; 16 where `out` is too short. They come before anything is written.
+#[inline]
 pub fn cut_and_join(
     header: [u8; 4],
     le: u16,

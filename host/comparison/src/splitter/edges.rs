@@ -2,7 +2,7 @@
 
 use gorvisclen::{Chain, Refused, PIECE_NUMBERS};
 
-use super::steps::Asked;
+use crate::builder::Asked;
 use crate::lent::{bytes, numbers, Outcome};
 use crate::tally::Tally;
 

@@ -6,7 +6,7 @@ use gorvisclen::{
 use opened::command::class::Class;
 use opened::command::{self, fields, left, short_only, CommandBuilder, ExpectedLen};
 
-use super::steps::Asked;
+use crate::builder::Asked;
 use crate::panics::unless_it_panics;
 
 fn number(le: ExpectedLen) -> u64 {

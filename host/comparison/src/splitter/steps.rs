@@ -3,7 +3,8 @@
 use gorvisclen::SPLIT_NUMBERS;
 
 use super::rust;
-use crate::lent::{demanded, hex, left, numbers};
+use crate::builder::Asked;
+use crate::lent::{demanded, left, numbers};
 use crate::tally::Tally;
 
 const STEP: [&str; 3] = [
@@ -17,35 +18,7 @@ const PARTS: &str =
     "CommandBuilder::should_split, then both parts written by our numbers (as the Rust writes them)";
 const PAPER: &str = "CommandBuilder::should_split, case by case (held to document 01)";
 
-/// One command to cut.
-#[derive(Clone, Copy)]
-pub struct Asked<'a> {
-    pub header: [u8; 4],
-    pub le: u32,
-    pub mode: u8,
-    pub data: &'a [u8],
-}
-
-impl<'a> Asked<'a> {
-    pub fn new(header: [u8; 4], le: u32, mode: u8, data: &'a [u8]) -> Self {
-        Asked {
-            header,
-            le,
-            mode,
-            data,
-        }
-    }
-
-    pub fn shown(&self) -> String {
-        format!(
-            "header {}, le {}, mode {}, data {}",
-            hex(&self.header),
-            self.le,
-            self.mode,
-            hex(self.data)
-        )
-    }
-
+impl Asked<'_> {
     fn held(
         &self,
         tally: &mut Tally,

@@ -9,7 +9,7 @@ use super::front::OBJECT;
 use super::lookup::Lookup;
 use super::records::length_forms;
 use crate::inputs::Inputs;
-use crate::lent::{bytes, hex, numbers, Outcome};
+use crate::lent::{bytes, hex, numbers, places_past, Outcome};
 use crate::tally::Tally;
 
 const WRITE: &str = "Tlv::to_writer";
@@ -130,16 +130,7 @@ impl Object<'_> {
             self.write(tally, buffer_len, before + 1, 2);
             self.write(tally, buffer_len, before, 0);
         }
-        let past = [
-            exact,
-            exact + 1,
-            exact + 65_536,
-            before + (1 << 32),
-            usize::MAX,
-            (usize::MAX - need).wrapping_add(1),
-            (usize::MAX - need).wrapping_add(1 + before),
-        ];
-        for at in past {
+        for at in places_past(before, need) {
             self.write(tally, exact, at, 1);
         }
     }
