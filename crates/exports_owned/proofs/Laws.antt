@@ -14,7 +14,7 @@ use Rattle.command.specs.declared.owned.Owned.{Owned}
 use Rattle.command.specs.declared.owned.Owned.the-variants as owned
 use Rattle.command.specs.declared.owned.Extended.{Extended}
 use Rattle.tell.specs.Answers.{short, outAfter, Answers}
-use Rattle.exports_owned.specs.Copies.{commandNumbers, OwnedCopied, held, Extends}
+use Rattle.exports_owned.specs.Copies.{commandNumbers, ofLength, OwnedCopied, Extends}
 
 status-done : (x : Reply ℕ) → status (done x) ≡ status x
 status-done (is n) = refl
@@ -54,7 +54,7 @@ module _ (r : Reading) (s room out : List ℕ) where
       record { reply = rw (n, made) (rw n at (a .reply)); bytes = rw n (g .buffer); told = rw (n, made) (rw n at (a .told)) }
 
 -- an extension, told
-pub extends : (n : ℕ) (v : CommandView) (d room out : List ℕ) (x : Extended) (after : List ℕ) → extended-is (held n) v d room x after
+pub extends : (n : ℕ) (v : CommandView) (d room out : List ℕ) (x : Extended) (after : List ℕ) → extended-is (ofLength n) v d room x after
     → (k : ℕ) → k ≡ status (saidExtending (x .answer)) → (y : ℕ) (out′ : List ℕ) → Answers 7 (is (commandNumbers (x .command))) out y out′
     → 7 ≤ length out → Extends n v d room out k after out′
 extends n v d room out x after h k e y out′ a l =

@@ -7,10 +7,17 @@ use Rattle.basis.specs.Reply.{Reply, is, no}
 use Rattle.class.specs.declared.Reading.the-variants.{Crate}
 use Rattle.command.specs.Command.{parse, dataIn}
 use Rattle.command.specs.declared.CommandView.{CommandView}
+use Rattle.command.specs.declared.owned.Command.{Command}
 use Rattle.tell.specs.Answers.{fitting}
 use Rattle.tell.proofs.Single.{copy}
 use Rattle.exports_command.specs.Numbers.{readingNumbered}
-use Rattle.exports_owned.specs.Copies.{CopiedBy, DataCopied, OwnedCopied, ExtendsBy, Extended}
+use Rattle.exports_owned.specs.Copies.{command-numbers-is, of-length-is, CopiedBy, DataCopied, OwnedCopied, ExtendsBy, Extended}
+
+pub command-numbers : (c : Command) (a b : List ℕ) → command-numbers-is c a → command-numbers-is c b → a ≡ b
+command-numbers c a b h g = h ∙⁻¹ g
+
+pub of-length : (n : ℕ) (a b : Command) → of-length-is n a → of-length-is n b → a ≡ b
+of-length n a b h g = h ∙⁻¹ g
 
 data-once : (v : Reply CommandView) (s to out : List ℕ) (r q : ℕ) (a b x y : List ℕ) → CopiedBy v s to out r a x
     → CopiedBy v s to out q b y → (r ≡ q) × (a ≡ b) × (x ≡ y)

@@ -28,6 +28,18 @@ DataCopied n s to out r to′ out′ = CopiedBy (parse (readingNumbered n) s) s 
 unfoldable pub commandNumbers : Command → List ℕ
 commandNumbers c = c .class .cla ∷ c .instruction ∷ c .p1 ∷ c .p2 ∷ c .len ∷ c .le ∷ flagOf (c .extended) ∷ []
 
+-- a command of which only the length of its data means something
+abbrev pub ofLength : ℕ → Command
+ofLength n =
+    record { class = record { cla = 0x00 }; instruction = 0; p1 = 0; p2 = 0; len = n; le = 0; extended = false }
+
+-- the promises of `command_numbers` and `of_length`
+abbrev pub command-numbers-is : Command → List ℕ → Type 0
+command-numbers-is c r = r ≡ commandNumbers c
+
+abbrev pub of-length-is : ℕ → Command → Type 0
+of-length-is n r = r ≡ ofLength n
+
 -- an owned copy in a room of m bytes, its numbers told in a slice of n
 abbrev pub owning : Reading → List ℕ → ℕ → ℕ → Reply Command
 owning r s m n = fitting 7 n (then (parse r s) (ownedOf m))
@@ -37,11 +49,6 @@ pub record OwnedCopied (r : Reading) (s room out : List ℕ) (x : ℕ) (room′ 
   pub reply : x ≡ status (owning r s (length room) (length out))
   pub bytes : room′ ≡ copied (owning r s (length room) (length out)) (dataIn s (parse r s)) room
   pub told : out′ ≡ outAfter (then (owning r s (length room) (length out)) (λ c. is (commandNumbers c))) out
-
--- a held command with so many bytes of data; its other numbers are replaced by an extension
-abbrev pub held : ℕ → Command
-held n =
-    record { class = record { cla = 0x00 }; instruction = 0; p1 = 0; p2 = 0; len = n; le = 0; extended = false }
 
 -- an extension by the command v with the data d, told also where the data do not fit
 pub record Extends (n : ℕ) (v : CommandView) (d room out : List ℕ) (x : ℕ) (room′ out′ : List ℕ) : Type 0 where

@@ -8,7 +8,7 @@ ghost use Rattle.command.specs.Command.{parse};
 ghost use Rattle.command.specs.Owned.{ownedOf, saidExtending};
 ghost use Rattle.tell.specs.Answers.{short};
 ghost use Rattle.exports_command.specs.Numbers.{readingNumbered};
-ghost use Rattle.exports_owned.specs.Copies.{commandNumbers, DataCopied, OwnedCopied, held, Extends, Extended};
+ghost use Rattle.exports_owned.specs.Copies.{command-numbers-is, of-length-is, DataCopied, OwnedCopied, Extends, Extended};
 use class::Reading;
 use command::Command;
 use command::CommandView;
@@ -20,8 +20,9 @@ use tell::flag;
 use tell::refuse;
 use tell::tell;
 
-fn command_numbers(command: Command) -> [u64; 7]
-    ensures { λ r. ⌜ r ≡ commandNumbers command ⌝ }
+// The seven numbers of a command.
+pub fn command_numbers(command: Command) -> [u64; 7]
+    ensures { λ r. ⌜ command-numbers-is command r ⌝ }
 {
     let class = command.class;
     [
@@ -33,6 +34,22 @@ fn command_numbers(command: Command) -> [u64; 7]
         command.le as u64,
         flag(command.extended),
     ]
+}
+
+// A command of which only the length of its data means something.
+pub fn of_length(len: usize) -> Command
+    ensures { λ r. ⌜ of-length-is len r ⌝ }
+{
+    let class = class::ZERO_CLA;
+    Command {
+        class,
+        instruction: 0,
+        p1: 0,
+        p2: 0,
+        len,
+        le: 0,
+        extended: false,
+    }
 }
 
 #[no_mangle]
@@ -89,22 +106,6 @@ pub extern "C" fn gorvisclen_command_owned(
     }
 }
 
-// A held command with so many bytes of data; its other numbers are replaced by an extension.
-fn holding(len: usize) -> Command
-    ensures { λ r. ⌜ r ≡ held len ⌝ }
-{
-    let class = class::ZERO_CLA;
-    Command {
-        class,
-        instruction: 0,
-        p1: 0,
-        p2: 0,
-        len,
-        le: 0,
-        extended: false,
-    }
-}
-
 fn extending_number(answer: Extending) -> u8
     ensures { λ r. ⌜ r ≡ status (saidExtending answer) ⌝ }
 {
@@ -119,7 +120,7 @@ fn extend(len: usize, room: &mut [u8], view: CommandView, part: &[u8], out: &mut
     requires { ⌜ 7 ≤ length (now out) ⌝ }
     ensures { λ r. ⌜ Extends len view (now (part .entry)) (now (room .entry)) (now (out .entry)) r (now (room .exit)) (now (out .exit)) ⌝ }
 {
-    let extended = holding(len).extend_from_command_view(view, part, room);
+    let extended = of_length(len).extend_from_command_view(view, part, room);
     let command = extended.command;
     let told = command_numbers(command);
     tell(&told, out);

@@ -2,7 +2,7 @@
 -- Document 01, "Reassembly" and "Numbers of refusal".
 use Prim.Native.Nat.{ℕ}
 use mathlib.Core.Path.{_≡_}
-use mathlib.Core.Bool.{false, cond}
+use mathlib.Core.Bool.{cond}
 use mathlib.Core.List.{List, [], _∷_, _++_}
 use mathlib.Core.Option.{Option, none, some}
 use lib.Dec.{eqb, ltb}
@@ -14,7 +14,8 @@ use Rattle.reassembler.specs.Join.{joinOf}
 use Rattle.reassembler.specs.declared.Held.{Held}
 use Rattle.reassembler.specs.declared.Reassembler.{Reassembler}
 use Rattle.reassembler.specs.declared.Reassembler.the-variants.{Closed, Open}
-use Rattle.tell.specs.Answers.{flagOf, fitting, Answers, Copied}
+use Rattle.tell.specs.Answers.{fitting, Answers, Copied}
+use Rattle.exports_owned.specs.Copies.{commandNumbers}
 use Rattle.exports_reassembler.specs.declared.Numbered.{Numbered}
 use Rattle.exports_reassembler.specs.declared.Numbered.the-variants as numbered
 
@@ -40,13 +41,13 @@ abbrev pub recordNumbers : Reassembler → List ℕ
 recordNumbers Closed = 0 ∷ 0 ∷ 0 ∷ 0 ∷ 0 ∷ 0 ∷ []
 recordNumbers (Open h) = heldNumbers h
 
--- the numbers of an answer: 1, class, instruction, P1, P2, length of the data, expected length, extended; zeros for "more"
-unfoldable pub commandNumbers : Command → List ℕ
-commandNumbers c = 1 ∷ c .class .cla ∷ c .instruction ∷ c .p1 ∷ c .p2 ∷ c .len ∷ c .le ∷ flagOf (c .extended) ∷ []
+-- the numbers of an answer: 1 and the command's, or zeros for "more"
+unfoldable pub givenNumbers : Command → List ℕ
+givenNumbers c = 1 ∷ commandNumbers c
 
 abbrev pub answerNumbers : Option Command → List ℕ
 answerNumbers none = 0 ∷ 0 ∷ 0 ∷ 0 ∷ 0 ∷ 0 ∷ 0 ∷ 0 ∷ []
-answerNumbers (some c) = commandNumbers c
+answerNumbers (some c) = givenNumbers c
 
 -- an answer's numbers and those of the record behind them
 abbrev pub telling : Reply (Option Command) → Reassembler → Reply (List ℕ)
@@ -78,11 +79,6 @@ usableOf n m = cond (ltb m 14) 0 n
 -- the promise of `gorvisclen_reset`: it always succeeds, and no chain is open
 abbrev pub reset-is : ℕ → ℕ → ℕ → ℕ → ℕ → ℕ → List ℕ → ℕ → List ℕ → Type 0
 reset-is o c i p q n out x out′ = Answers 6 (is (recordNumbers Closed)) out x out′
-
--- a command with n bytes of data; nothing else of it is asked
-abbrev pub ofLength : ℕ → Command
-ofLength n =
-    record { class = record { cla = 0x00 }; instruction = 0; p1 = 0; p2 = 0; len = n; le = 0; extended = false }
 
 -- the promise of `gorvisclen_joined_data`: the first n bytes of the room, or all where it has fewer, copied and counted
 abbrev pub JoinedData : ℕ → List ℕ → List ℕ → List ℕ → ℕ → List ℕ → List ℕ → Type 0

@@ -5,15 +5,16 @@ ghost use mathlib.Core.List.{_++_};
 ghost use Rattle.basis.specs.Reply.{is};
 ghost use Rattle.reassembler.specs.Join.{said};
 ghost use Rattle.tell.specs.Answers.{Answers};
-ghost use Rattle.exports_reassembler.specs.Numbers.{saidRecord, recordNumbered, heldNumbers, recordNumbers, commandNumbers};
-ghost use Rattle.exports_reassembler.specs.Numbers.{telling, metBy, usableOf, PieceJoined, reset-is, ofLength, JoinedData};
+ghost use Rattle.exports_reassembler.specs.Numbers.{saidRecord, recordNumbered, heldNumbers, recordNumbers, givenNumbers};
+ghost use Rattle.exports_reassembler.specs.Numbers.{telling, metBy, usableOf, PieceJoined, reset-is, JoinedData};
 use class::Class;
 use class::FromByte;
 use command::Command;
+use exports_owned::command_numbers;
+use exports_owned::of_length;
 use reassembler::Held;
 use reassembler::Joining;
 use reassembler::Reassembler;
-use tell::flag;
 use tell::refuse;
 use tell::tell;
 
@@ -67,20 +68,12 @@ fn record_numbers(chain: Reassembler) -> [u64; 6]
     }
 }
 
-fn command_numbers(command: Command) -> [u64; 8]
-    ensures { λ r. ⌜ r ≡ commandNumbers command ⌝ }
+// The numbers of an answer that gives a command back.
+fn given_numbers(command: Command) -> [u64; 8]
+    ensures { λ r. ⌜ r ≡ givenNumbers command ⌝ }
 {
-    let class = command.class;
-    [
-        1,
-        class.into_inner() as u64,
-        command.instruction as u64,
-        command.p1 as u64,
-        command.p2 as u64,
-        command.len as u64,
-        command.le as u64,
-        flag(command.extended),
-    ]
+    let n = command_numbers(command);
+    [1, n[0], n[1], n[2], n[3], n[4], n[5], n[6]]
 }
 
 // Tells an answer's numbers, and those of the record behind them.
@@ -106,7 +99,7 @@ fn tell_joined(answer: Joining, chain: Reassembler, out: &mut [u64]) -> u8
             tell_both(&none, chain, out)
         }
         Joining::Command(command) => {
-            let numbers = command_numbers(command);
+            let numbers = given_numbers(command);
             tell_both(&numbers, chain, out)
         }
     }
@@ -170,22 +163,6 @@ pub extern "C" fn gorvisclen_reset(
             let numbers = record_numbers(before.reset());
             tell(&numbers, out)
         }
-    }
-}
-
-// A command with so many bytes of data; nothing else of it is asked.
-fn of_length(len: usize) -> Command
-    ensures { λ r. ⌜ r ≡ ofLength len ⌝ }
-{
-    let class = class::ZERO_CLA;
-    Command {
-        class,
-        instruction: 0,
-        p1: 0,
-        p2: 0,
-        len,
-        le: 0,
-        extended: false,
     }
 }
 

@@ -9,12 +9,13 @@ use Rattle.basis.specs.Reply.{Reply, is, no}
 use Rattle.splitter.specs.declared.pieces.Pieces.{Pieces}
 use Rattle.tell.specs.Answers.{outAfter, refuse-is, Answers}
 use Rattle.tell.proofs.Answers.{said as told-no, told-done, told-all}
+use Rattle.exports_owned.specs.Copies.{commandNumbers}
 use Rattle.exports_relay.specs.Relay.{startOf, runIn, stateNumbers, Ends, Relayed}
 use Rattle.exports_relay.specs.declared.State.{State}
 use Rattle.exports_relay.specs.declared.End.{End}
 
 ten : (k : ℕ) (y : State) → length (stateNumbers k y) ≡ 10
-unfolding stateNumbers
+unfolding commandNumbers stateNumbers
 ten k y = refl
 
 -- no chain; no room for the numbers; a run that was told

@@ -3,8 +3,7 @@
 -- run is no refusal: a piece that is refused ends it early, and the number of that refusal is told.
 use Prim.Native.Nat.{ℕ, zero, suc, _+_}
 use mathlib.Core.Path.{_≡_}
-use mathlib.Core.Bool.{false}
-use mathlib.Core.List.{List, [], _∷_}
+use mathlib.Core.List.{List, _∷_}
 use mathlib.Core.Option.{Option, none, some}
 use lib.ListN.{length, take}
 use Rattle.basis.specs.Reply.{Reply, is, no, then, status}
@@ -15,20 +14,16 @@ use Rattle.splitter.specs.declared.pieces.Written.{Written}
 use Rattle.reassembler.specs.Join.{Outcome, joinOf}
 use Rattle.reassembler.specs.declared.Reassembler.{Reassembler}
 use Rattle.reassembler.specs.declared.Reassembler.the-variants.{Closed}
-use Rattle.tell.specs.Answers.{flagOf, fitting, outAfter}
+use Rattle.tell.specs.Answers.{fitting, outAfter}
+use Rattle.exports_owned.specs.Copies.{commandNumbers, ofLength}
 use Rattle.exports_relay.specs.declared.State.{State}
 use Rattle.exports_relay.specs.declared.Turn.{Turn}
 use Rattle.exports_relay.specs.declared.Turn.the-variants as turn
 use Rattle.exports_relay.specs.declared.End.{End}
 
--- what stands for a command where none was given back yet: zeros
-abbrev pub noCommand : Command
-noCommand =
-    record { class = record { cla = 0x00 }; instruction = 0; p1 = 0; p2 = 0; len = 0; le = 0; extended = false }
-
--- a run that starts: all of the chain is left, and no chain is open
+-- a run that starts: all of the chain is left, no chain is open, and zeros stand for the command that was not given back yet
 abbrev pub startOf : Pieces → State
-startOf c = record { chain = c; chained = Closed; pieces = 0; more = 0; last = noCommand }
+startOf c = record { chain = c; chained = Closed; pieces = 0; more = 0; last = ofLength 0 }
 
 -- the run after a piece: the reply was "more", or the command
 abbrev pub afterMore : State → Pieces → Reassembler → State
@@ -99,12 +94,9 @@ abbrev pub roomOf : Reply Ended → List ℕ → List ℕ
 roomOf (is e) room = e .room
 roomOf (no k) room = room
 
--- the refusal k that ended the run early, or 0; how many pieces were joined and how many replies were "more"; of the command given back
--- last: class, instruction, P1, P2, length of the data, expected length, extended
+-- the refusal k that ended the run early, or 0; how many pieces were joined and how many replies were "more"; the command given back last
 unfoldable pub stateNumbers : ℕ → State → List ℕ
-stateNumbers k x =
-    k ∷ x .pieces ∷ x .more ∷ x .last .class .cla ∷ x .last .instruction ∷ x .last .p1 ∷ x .last .p2 ∷ x .last .len ∷ x .last .le
-    ∷ flagOf (x .last .extended) ∷ []
+stateNumbers k x = k ∷ x .pieces ∷ x .more ∷ commandNumbers (x .last)
 
 abbrev pub saidTurn : Turn → Reply (Option State)
 saidTurn (turn.Next x) = is (some x)

@@ -5,16 +5,17 @@ ghost use mathlib.Core.Path.{_≡_};
 ghost use Prim.Native.Nat.{_+_, _≤_, _<_};
 ghost use lib.ListN.{length};
 ghost use Rattle.splitter.specs.Pieces.{chainOf};
-ghost use Rattle.exports_relay.specs.Relay.{noCommand, startOf, afterMore, afterCommand, stateNumbers, Relayed};
+ghost use Rattle.exports_relay.specs.Relay.{startOf, afterMore, afterCommand, stateNumbers, Relayed};
 ghost use Rattle.exports_relay.specs.Relay.{joinedIn, turnOf, runIn, Turns, Ends};
 use command::Command;
+use exports_owned::command_numbers;
+use exports_owned::of_length;
 use reassembler::Joining;
 use reassembler::Reassembler;
 use splitter::NewPieces;
 use splitter::Pieces;
 use splitter::WriteNext;
 use splitter::Written;
-use tell::flag;
 use tell::refuse;
 use tell::tell;
 
@@ -41,28 +42,12 @@ struct End {
     state: State,
 }
 
-// What stands for a command where none was given back yet.
-fn no_command() -> Command
-    ensures { λ r. ⌜ r ≡ noCommand ⌝ }
-{
-    let class = class::ZERO_CLA;
-    Command {
-        class,
-        instruction: 0,
-        p1: 0,
-        p2: 0,
-        len: 0,
-        le: 0,
-        extended: false,
-    }
-}
-
-// A run that starts: no chain is open.
+// A run that starts: no chain is open, and no command was given back.
 fn start(chain: Pieces) -> State
     ensures { λ r. ⌜ r ≡ startOf chain ⌝ }
 {
     let chained = Reassembler::new();
-    let last = no_command();
+    let last = of_length(0);
     State {
         chain,
         chained,
@@ -162,18 +147,18 @@ fn state_numbers(ended: u8, state: State) -> [u64; 10]
     ensures { λ r. ⌜ r ≡ stateNumbers ended state ⌝ }
 {
     let last = state.last;
-    let class = last.class;
+    let n = command_numbers(last);
     [
         ended as u64,
         state.pieces as u64,
         state.more as u64,
-        class.into_inner() as u64,
-        last.instruction as u64,
-        last.p1 as u64,
-        last.p2 as u64,
-        last.len as u64,
-        last.le as u64,
-        flag(last.extended),
+        n[0],
+        n[1],
+        n[2],
+        n[3],
+        n[4],
+        n[5],
+        n[6],
     ]
 }
 

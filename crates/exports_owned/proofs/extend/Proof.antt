@@ -10,7 +10,7 @@ returns c =
     let t = c .before .before .before in
     let n = t .before .before .before in
     let e = n .before .before .before .before in
-    extends _ _ _ _ _ _ _ (rw (e .before .before .holding .ensures) at (e .extend-from-command-view .ensures)) _ (c .extending-number .ensures)
+    extends _ _ _ _ _ _ _ (rw (e .before .before .of-length .ensures) at (e .extend-from-command-view .ensures)) _ (c .extending-number .ensures)
     _ _ (rw (n .command-numbers .ensures) at (t .tell .ensures)) (search needs)
 
 pub extend-spec : {M : Type 1} → statement M

@@ -16,7 +16,7 @@ returns-3 : tie.Need-returns-3
 returns-3 c =
     let t = c .before .before in
     let n = t .before .before .before in
-    rw (ap said (n .before .before .answer2 .given .1), ← n .command-numbers .ensures) (t .tell-both2 .ensures)
+    rw (ap said (n .before .before .answer2 .given .1), ← n .given-numbers .ensures) (t .tell-both2 .ensures)
 
 pub tell-joined-spec : {M : Type 1} → statement M
 tell-joined-spec =

@@ -1,11 +1,12 @@
 use borrow.Author.Needs.{needs}
+use Rattle.exports_owned.specs.Copies.{commandNumbers}
 use Rattle.exports_relay.specs.Relay.{stateNumbers}
 use Rattle.exports_relay.proofs.state_numbers.Statement.{statement}
 use Rattle.exports_relay.proofs.state_numbers.Tie as tie
 
 returns : tie.Need-returns
-unfolding stateNumbers
-returns c = rw (c .before .before .before .before .into-inner .ensures, c .flag .ensures)
+unfolding commandNumbers stateNumbers
+returns c = rw (c .command-numbers .ensures)
 
 pub state-numbers-spec : {M : Type 1} → statement M
 state-numbers-spec =
@@ -15,5 +16,7 @@ state-numbers-spec =
     (λ c. search needs)
     (λ c. search needs)
     (λ c. search needs)
-    (λ c κs. search needs)
+    (λ c. search needs)
+    (λ c. search needs)
+    (λ c. search needs)
     returns)
