@@ -15,13 +15,15 @@ use Rattle.class.specs.declared.Reading.the-variants.{Crate}
 use Rattle.command.specs.Command.{parse, dataIn}
 use Rattle.command.specs.Owned.{extendOf}
 use Rattle.command.specs.declared.CommandView.{CommandView}
+use Rattle.command.specs.declared.owned.Command.{Command}
 use Rattle.reassembler.specs.Join.{continues, heldBy, lengthOf, takenIn, viewIn, parsedIn, joinOf, said, join-is}
 use Rattle.reassembler.specs.declared.Reassembler.{Reassembler}
 use Rattle.reassembler.specs.declared.Reassembler.the-variants.{Closed, Open}
 use Rattle.reassembler.specs.declared.Joined.{Joined}
-use Rattle.tell.specs.Answers.{short, outAfter, refuse-is, Answers}
+use Rattle.tell.specs.Answers.{short, outAfter, refuse-is, Answers, Copied}
 use Rattle.tell.proofs.Answers.{said as told-no, answers-no, told-done, told-all}
-use Rattle.exports_reassembler.specs.Numbers.{heldNumbers, recordNumbers, telling, metBy, joinedBy, roomAfter, usableOf, PieceJoined}
+use Rattle.exports_owned.specs.Copies.{ofLength}
+use Rattle.exports_reassembler.specs.Numbers.{heldNumbers, recordNumbers, telling, metBy, joinedBy, roomAfter, usableOf, PieceJoined, JoinedData}
 
 -- a slice too short leaves itself and the room
 written-short : (x : Reply (List ℕ)) (out : List ℕ) → out ≡ outAfter (short x) out
@@ -197,3 +199,9 @@ both vs r out l ws ys a b n h t e u =
 pub closed-told : (ws : List ℕ) (r : Reassembler) (out : List ℕ) (x : ℕ) (out′ : List ℕ) → ws ≡ recordNumbers r → r ≡ Closed
     → Answers (length ws) (is ws) out x out′ → Answers 6 (is (recordNumbers Closed)) out x out′
 closed-told ws r out x out′ e f a = subst (λ z. Answers (length z) (is z) out x out′) (e ∙ ap recordNumbers f) a
+
+-- the data of a command of length n, copied
+pub data-copied : (n : ℕ) (k : Command) (d room to out : List ℕ) (x : ℕ) (to′ out′ : List ℕ) → k ≡ ofLength n → d ≡ take (k .len) room
+    → Copied d to out x to′ out′ → JoinedData n room to out x to′ out′
+data-copied n k d room to out x to′ out′ e f a =
+    subst (λ z. Copied z to out x to′ out′) (f ∙ ap (λ (c : Command). take (c .len) room) e) a

@@ -1,6 +1,6 @@
 -- Laws of what the exported writer of commands leaves. Assumes nothing.
 use Prim.Native.Nat.{ℕ, _+_, _≤_, _<_}
-use mathlib.Core.Path.{_≡_, refl, sym, ap, _∙_}
+use mathlib.Core.Path.{_≡_, refl, sym, ap, _∙_, subst}
 use mathlib.Core.Bool.{Bool, true, false, cond}
 use mathlib.Core.List.{List, [], _∷_}
 use borrow.Author.Tests.{lt-ltb, le-ltb}
@@ -32,7 +32,22 @@ unfolding serializeOf
 no-count b d m at h =
     rw (le-ltb 65535 (length d) h) (at-most (ltb m (at + length (commandOf b d))) (length (commandOf b d)))
 
--- where the code made o: no builder; no room for the length; refused; written
+-- a command that was written: refused; done
+module _ (b : CommandBuilder) (d : List ℕ) (at : ℕ) (l out : List ℕ) (h : 1 ≤ length out) (y : Length) (after : List ℕ)
+    (s : serialize-into-is b d l at y after) where
+  pub refused : (k : ℕ) → y ≡ Refused k → Serialized (is b) d at l out k after out
+  refused k t =
+      let n = le-ltb (length out) 1 h in
+      let f : serializeOf b d (length l) at ≡ no k = sym (s .reply) ∙ ap saidLength t in
+      record { reply = rw (n, f); bytes = rw n (s .buffer); told = rw (n, f) }
+
+  pub done : (k : ℕ) (out′ : List ℕ) → y ≡ Bytes k → out′ ≡ over (k ∷ []) out → Serialized (is b) d at l out 0 after out′
+  done k out′ t w =
+      let n = le-ltb (length out) 1 h in
+      let f : serializeOf b d (length l) at ≡ is k = sym (s .reply) ∙ ap saidLength t in
+      record { reply = rw (n, f); bytes = rw n (s .buffer); told = rw (n, f) w }
+
+-- where the code made o: no builder; no room for the length; written
 module _ (c i p q e m : ℕ) (d : List ℕ) (o : Built) (made : said o ≡ builderNumbered c i p q e m d) (at : ℕ)
     (l out : List ℕ) where
   abbrev x : Reply CommandBuilder
@@ -53,15 +68,5 @@ module _ (c i p q e m : ℕ) (d : List ℕ) (o : Built) (made : said o ≡ build
         let f = no-count b d (length l) at (all-is (λ k. length d ≤ 65535) x b (few c i p q e m d) x-is) in
         record { reply = rw (x-is, n, f); bytes = rw (x-is, n, f); told = rw (x-is, n, f) }
 
-    module _ (h : 1 ≤ length out) (y : Length) (after : List ℕ) (s : serialize-into-is b d l at y after) where
-      pub refused : (k : ℕ) → y ≡ Refused k → Serialized x d at l out k after out
-      refused k t =
-          let n = le-ltb (length out) 1 h in
-          let f : serializeOf b d (length l) at ≡ no k = sym (s .reply) ∙ ap saidLength t in
-          record { reply = rw (x-is, n, f); bytes = rw (x-is, n) (s .buffer); told = rw (x-is, n, f) }
-
-      pub done : (k : ℕ) (out′ : List ℕ) → y ≡ Bytes k → out′ ≡ over (k ∷ []) out → Serialized x d at l out 0 after out′
-      done k out′ t w =
-          let n = le-ltb (length out) 1 h in
-          let f : serializeOf b d (length l) at ≡ is k = sym (s .reply) ∙ ap saidLength t in
-          record { reply = rw (x-is, n, f); bytes = rw (x-is, n) (s .buffer); told = rw (x-is, n, f) w }
+    pub written : (r : ℕ) (after out′ : List ℕ) → Serialized (is b) d at l out r after out′ → Serialized x d at l out r after out′
+    written r after out′ s = subst (λ z. Serialized z d at l out r after out′) (sym x-is) s

@@ -1,7 +1,5 @@
 use borrow.Author.Needs.{needs}
-use lib.ListN.{take}
-use Rattle.command.specs.declared.owned.Command.{Command}
-use mathlib.Core.Path.{ap, _∙_}
+use Rattle.exports_reassembler.proofs.Laws.{data-copied}
 use Rattle.exports_reassembler.proofs.gorvisclen_joined_data.Statement.{statement}
 use Rattle.exports_reassembler.proofs.gorvisclen_joined_data.Tie as tie
 
@@ -10,7 +8,7 @@ returns c =
     let y = c .before .before .before .before in
     let d = y .before .before .before in
     let a = c .before .before .before .before .before .before .before .before .before .before .before .before .args in
-    rw (← d .«data» .ensures ∙ ap (λ (k : Command). take (k .len) (a .room .now)) (d .before .of-length .ensures)) (y .copy .ensures)
+    data-copied (a .len) _ _ _ _ _ _ _ _ (d .before .of-length .ensures) (d .«data» .ensures) (y .copy .ensures)
 
 pub gorvisclen-joined-data-spec : {M : Type 1} → statement M
 gorvisclen-joined-data-spec =
