@@ -21,7 +21,7 @@ use tell::tell;
 
 // A run: the chain that is left to cut, the record, how many pieces were joined and how many replies were "more", and the command
 // that was given back last.
-struct State {
+pub struct State {
     chain: Pieces,
     chained: Reassembler,
     pieces: usize,
