@@ -3,7 +3,7 @@
 ghost use mathlib.Core.Path.{_≡_};
 ghost use mathlib.Core.List.{_++_};
 ghost use Rattle.basis.specs.Reply.{is};
-ghost use Rattle.reassembler.specs.Join.{said};
+ghost use Rattle.reassembler.specs.Join.{said, closed-is};
 ghost use Rattle.tell.specs.Answers.{Answers};
 ghost use Rattle.exports_reassembler.specs.Numbers.{saidRecord, recordNumbered, heldNumbers, recordNumbers, givenNumbers};
 ghost use Rattle.exports_reassembler.specs.Numbers.{telling, metBy, usableOf, PieceJoined, reset-is, JoinedData};
@@ -142,6 +142,16 @@ pub extern "C" fn gorvisclen_join(
     }
 }
 
+// The record after a reset; where there was none, no chain is open either.
+fn closed(record: Numbered) -> Reassembler
+    ensures { λ r. ⌜ closed-is r ⌝ }
+{
+    match record {
+        Numbered::Refused(_) => Reassembler::new(),
+        Numbered::Chain(before) => before.reset(),
+    }
+}
+
 #[no_mangle]
 pub extern "C" fn gorvisclen_reset(
     opened: u8,
@@ -154,16 +164,9 @@ pub extern "C" fn gorvisclen_reset(
 ) -> u8
     ensures { λ r. ⌜ reset-is opened class instruction p1 p2 held (now (out .entry)) r (now (out .exit)) ⌝ }
 {
-    match record_numbered(opened, class, instruction, p1, p2, held) {
-        Numbered::Refused(_) => {
-            let numbers = record_numbers(Reassembler::new());
-            tell(&numbers, out)
-        }
-        Numbered::Chain(before) => {
-            let numbers = record_numbers(before.reset());
-            tell(&numbers, out)
-        }
-    }
+    let before = record_numbered(opened, class, instruction, p1, p2, held);
+    let numbers = record_numbers(closed(before));
+    tell(&numbers, out)
 }
 
 #[no_mangle]

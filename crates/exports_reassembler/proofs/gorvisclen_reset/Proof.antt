@@ -7,30 +7,16 @@ returns : tie.Need-returns
 returns c =
     let t = c .before .before in
     let n = t .before .before .before in
-    closed-told _ _ _ _ _ (n .record-numbers .ensures) (n .before .new .ensures) (t .tell .ensures)
-
-returns-2 : tie.Need-returns-2
-returns-2 c =
-    let t = c .before .before in
-    let n = t .before .before .before in
-    closed-told _ _ _ _ _ (n .record-numbers2 .ensures) (n .before .reset .ensures) (t .tell2 .ensures)
+    closed-told _ _ _ _ _ (n .record-numbers .ensures) (n .before .closed .ensures) (t .tell .ensures)
 
 pub gorvisclen-reset-spec : {M : Type 1} → statement M
 gorvisclen-reset-spec =
     tie.close
     (tie.spec
     (λ c κs. search needs)
-    (λ c. search needs)
     (λ c κs. search needs)
     (λ c κs. search needs)
     (λ c. search needs)
     (λ c κs. search needs)
     (λ c. search needs)
-    (λ c κs. search needs)
-    (λ c κs. search needs)
-    (λ c. search needs)
-    (λ c κs. search needs)
-    (λ c. search needs)
-    returns
-    (λ c. search needs)
-    returns-2)
+    returns)
