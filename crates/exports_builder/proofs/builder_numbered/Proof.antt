@@ -1,13 +1,11 @@
 use borrow.Author.Needs.{needs}
-use Rattle.exports_builder.specs.Numbers.{builderNumbered}
+use Rattle.exports_builder.proofs.Laws.{made}
 use Rattle.exports_builder.proofs.builder_numbered.Statement.{statement}
 use Rattle.exports_builder.proofs.builder_numbered.Tie as tie
 
 returns : tie.Need-returns
-unfolding builderNumbered
 returns c =
-    let m = c .before in
-    rw (← m .before .expected-numbered .ensures, ← m .mode-numbered .ensures) (c .new .ensures)
+    let m = c .before in made _ _ _ _ _ _ _ _ _ _ (c .new .ensures) (m .before .expected-numbered .ensures) (m .mode-numbered .ensures)
 
 pub builder-numbered-spec : {M : Type 1} → statement M
 builder-numbered-spec =

@@ -1,26 +1,30 @@
 use borrow.Author.Needs.{needs}
-use mathlib.Core.Path.{sym, ap, _∙_}
+use mathlib.Core.Path.{ap}
 use Rattle.command.specs.Command.{said}
 use Rattle.basis.specs.Reply.{no}
+use Rattle.exports_builder.proofs.Laws.{read}
 use Rattle.exports_builder.proofs.compared.Statement.{statement}
 use Rattle.exports_builder.proofs.compared.Tie as tie
 
 returns : tie.Need-returns
 returns c =
     let j = c .before .before in
-    rw (sym (j .before .before .try-from .ensures) ∙ ap said (j .j .given .1)) (ap no (c .smaller .ensures))
+    let t = j .before .before in
+    rw (read (t .before .before .before .args .apdu .now) (t .try-from .ensures) (ap said (j .j .given .1))) (ap no (c .smaller .ensures))
 
 returns-2 : tie.Need-returns-2
 returns-2 c =
     let v = c .before .before .before .before in
-    rw (sym (v .before .before .try-from .ensures) ∙ ap said (v .view .given .1), c .before .built .given .1)
+    let t = v .before .before in
+    rw (read (t .before .before .before .args .apdu .now) (t .try-from .ensures) (ap said (v .view .given .1)), c .before .built .given .1)
 
 returns-3 : tie.Need-returns-3
 returns-3 c =
     let d = c .before in
     let b = d .before .before in
     let v = b .before .before .before in
-    let e = sym (v .before .before .try-from .ensures) ∙ ap said (v .view .given .1) in
+    let t = v .before .before in
+    let e = read (t .before .before .before .args .apdu .now) (t .try-from .ensures) (ap said (v .view .given .1)) in
     rw (e, b .built2 .given .1) (rw (d .«data» .ensures, e) at (c .eq .ensures))
 
 pub compared-spec : {M : Type 1} → statement M

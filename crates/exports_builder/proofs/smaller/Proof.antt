@@ -4,10 +4,14 @@ use Rattle.exports_builder.proofs.smaller.Statement.{statement}
 use Rattle.exports_builder.proofs.smaller.Tie as tie
 
 returns : tie.Need-returns
-returns c = rw (c .before .before .built .given .1, lt-ltb _ _ (c .if1 .taken))
+returns c =
+    let b = c .before .before in
+    rw (b .built .given .1, lt-ltb (b .built .given .0 .0) (b .before .before .args .j) (c .if1 .taken))
 
 returns-3 : tie.Need-returns-3
-returns-3 c = rw (c .before .before .built .given .1, le-ltb _ _ (c .if1 .left))
+returns-3 c =
+    let b = c .before .before in
+    rw (b .built .given .1, le-ltb (b .built .given .0 .0) (b .before .before .args .j) (c .if1 .left))
 
 pub smaller-spec : {M : Type 1} → statement M
 smaller-spec =
