@@ -1,3 +1,5 @@
+use Prim.Native.Nat.{_/_}
+use mathlib.Core.Path.{_≡_}
 use borrow.Author.Tests.{ne-eqb}
 use Rattle.aid.specs.Category.{categoryOf}
 use Rattle.aid.proofs.category.of.Statement.{statement}
@@ -8,7 +10,7 @@ unfolding categoryOf
 of-spec =
     tie.close
     (tie.spec
-    (λ c. rw (c .match .keys1))
+    (λ c. let high : c .before .args .first / 16 ≡ 0xA = c .match .keys1 in rw high)
     (λ c. rw (c .match .keys2))
     (λ c. rw (c .match .keys3))
     (λ c. rw (c .match .keys4))

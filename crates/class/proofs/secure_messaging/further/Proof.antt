@@ -1,3 +1,4 @@
+use Prim.Native.Nat.{_/_, _%_}
 use borrow.Author.Needs.{needs}
 use borrow.Author.Tests.{eq-eqb, ne-eqb}
 use Rattle.class.specs.SecureMessaging.{furtherOf}
@@ -10,7 +11,7 @@ returns c = rw (c .enum-told .given .1)
 
 returns-2 : tie.Need-returns-2
 unfolding furtherOf
-returns-2 c = rw (c .before .enum-told2 .given .1, eq-eqb _ _ (c .if1 .taken))
+returns-2 c = rw (c .before .enum-told2 .given .1, eq-eqb (c .before .before .before .args .cla / 32 % 2) 0 (c .if1 .taken))
 
 returns-3 : tie.Need-returns-3
 unfolding furtherOf
