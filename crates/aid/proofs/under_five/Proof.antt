@@ -4,6 +4,10 @@ use Rattle.aid.specs.Making.{underFive}
 use Rattle.aid.proofs.under_five.Statement.{statement}
 use Rattle.aid.proofs.under_five.Tie as tie
 
+returns : tie.Need-returns
+unfolding underFive
+returns c = rw (sym (c .before .before .of .ensures) ∙ c .enum-told .given .1)
+
 pub under-five-spec : {M : Type 1} → statement M
 unfolding underFive
 under-five-spec =
@@ -15,7 +19,7 @@ under-five-spec =
     (λ c. search needs)
     (λ c. search needs)
     (λ c. search needs)
-    (λ c. rw (sym (c .before .before .of .ensures) ∙ c .enum-told .given .1))
+    returns
     (λ c. rw (sym (c .before .before .of .ensures) ∙ c .enum-told2 .given .1))
     (λ c. rw (sym (c .before .before .of .ensures) ∙ c .enum-told3 .given .1))
     (λ c. rw (sym (c .before .before .of .ensures) ∙ c .enum-told4 .given .1))

@@ -3,6 +3,9 @@ use Rattle.aid.proofs.Spans.{starts, measured}
 use Rattle.aid.proofs.Aid.part_len.Statement.{statement}
 use Rattle.aid.proofs.Aid.part_len.Tie as tie
 
+returns-2 : tie.Need-returns-2
+returns-2 c = rw (← c .before .before .span-of .ensures .shows, c .enum-told .given .1)
+
 pub part-len-spec : {M : Type 1} → statement M
 part-len-spec =
     tie.close
@@ -12,4 +15,4 @@ part-len-spec =
     (λ c. starts (search needs) (c .before .before .before .span-of .ensures) (c .before .start .given .1))
     (λ c. search needs)
     (λ c. measured (search needs) (c .before .before .before .span-of .ensures) (c .before .start .given .1))
-    (λ c. rw (← c .before .before .span-of .ensures .shows, c .enum-told .given .1)))
+    returns-2)
