@@ -22,6 +22,11 @@ puts-next {m} {n} {at} {r} {r′} {u} {v} {l} {l′} {l″} h p q =
       text = q .text ∙ ap (λ (x : List ℕ). put r v x) (p .text) ∙ ap (λ (i : ℕ). put i v (put at u l)) (p .behind) ∙ put-put at u v l h;
     }
 
+-- u, v and w
+pub puts-three : {k m n at r r′ r″ : ℕ} {u v w l l′ l″ l‴ : List ℕ} → at ≤ length l
+    → Puts k u at l r l′ → Puts m v r l′ r′ l″ → Puts n w r′ l″ r″ l‴ → Puts (k + m + n) (u ++ v ++ w) at l r″ l‴
+puts-three h p q s = puts-next h (puts-next h p q) s
+
 -- not more than m bytes are not more than n; other words for the same text
 pub puts-most : {m at r : ℕ} {u l l′ : List ℕ} (n : ℕ) → m ≤ n → Puts m u at l r l′ → Puts n u at l r l′
 puts-most n h p = record { behind = p .behind; most = omega (arith, p .most); same = p .same; text = p .text }

@@ -86,8 +86,11 @@ unfoldable pub headerText : ℕ → CommandView → List ℕ
 headerText k v =
     decimal k ++ (space ++ hex (v .class .cla)) ++ (space ++ hex (v .instruction)) ++ (space ++ hex (v .p1)) ++ (space ++ hex (v .p2))
 
+abbrev pub kindWord : Bool → List ℕ
+kindWord x = cond x extended-word short-word
+
 unfoldable pub lengthsText : ℕ → ℕ → Bool → List ℕ
-lengthsText lc le x = lc-word ++ decimal lc ++ le-word ++ decimal le ++ cond x extended-word short-word ++ newline
+lengthsText lc le x = lc-word ++ decimal lc ++ le-word ++ decimal le ++ kindWord x ++ newline
 
 unfoldable pub commandText : ℕ → Reply CommandView → List ℕ
 commandText k (is v) = headerText k v ++ lengthsText (v .len) (v .le) (v .extended)

@@ -4,7 +4,7 @@ ghost use mathlib.Core.List.{[], _∷_, _++_};
 ghost use Prim.Native.Nat.{_+_, _%_, _≤_, _<_};
 ghost use lib.ListN.{length};
 ghost use Rattle.listing.specs.Text.{Puts, decimal, hexDigit, hex, space, tagText, countLine, malformedLine, refusedText};
-ghost use Rattle.listing.specs.Text.{headerText, lengthsText, commandLine, placeText, objectLine, stoppedLine};
+ghost use Rattle.listing.specs.Text.{headerText, kindWord, lengthsText, commandLine, placeText, objectLine, stoppedLine};
 use class::Reading;
 use command::CommandView;
 use command::Parsed;
@@ -138,7 +138,18 @@ fn put_header(out: &mut [u8], number: usize, view: CommandView) -> usize
     put_spaced(out, p2, view.p2)
 }
 
-// The lengths of a command, and whether they are short or extended.
+// Whether the lengths of a command are short or extended.
+fn put_kind(out: &mut [u8], at: usize, extended: bool) -> usize
+    requires { ⌜ at + 9 ≤ length (now out) ⌝ }
+    ensures { λ r. ⌜ Puts 9 (kindWord extended) at (now (out .entry)) r (now (out .exit)) ⌝ }
+{
+    if extended {
+        return put_word(out, at, b" extended");
+    }
+    put_word(out, at, b" short")
+}
+
+// The lengths of a command, and their kind.
 fn put_lengths(out: &mut [u8], at: usize, lc: usize, le: usize, extended: bool) -> usize
     requires { ⌜ (lc < 100000) × (le < 100000) × (at + 28 ≤ length (now out)) ⌝ }
     ensures { λ r. ⌜ Puts 28 (lengthsText lc le extended) at (now (out .entry)) r (now (out .exit)) ⌝ }
@@ -147,11 +158,7 @@ fn put_lengths(out: &mut [u8], at: usize, lc: usize, le: usize, extended: bool) 
     let behind = put_decimal(out, at_lc, lc);
     let at_le = put_word(out, behind, b" le ");
     let word = put_decimal(out, at_le, le);
-    if extended {
-        let end = put_word(out, word, b" extended");
-        return put_byte(out, end, b'\n');
-    }
-    let end = put_word(out, word, b" short");
+    let end = put_kind(out, word, extended);
     put_byte(out, end, b'\n')
 }
 

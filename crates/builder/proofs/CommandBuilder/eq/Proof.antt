@@ -1,7 +1,10 @@
 use borrow.Author.Needs.{needs}
-use mathlib.Core.Path.{sym, _∙_}
+use mathlib.Core.Path.{_≡_, sym, ap, _∙_}
 use borrow.Author.Tests.{lt-ltb, le-ltb, eq-eqb, ne-eqb, not-true, not-false}
-use Rattle.builder.specs.Compare.{equalTo}
+use Rattle.basis.specs.Reply.{is}
+use Rattle.builder.specs.Compare.{said, equalTo, eq-is}
+use Rattle.builder.specs.declared.compare.Comparison.{Comparison}
+use Rattle.builder.specs.declared.compare.Comparison.the-variants.{Equal, Different}
 use Rattle.builder.proofs.Same.{same-by}
 use Rattle.builder.proofs.CommandBuilder.eq.Statement.{statement}
 use Rattle.builder.proofs.CommandBuilder.eq.Tie as tie
@@ -24,31 +27,29 @@ returns-3 c =
       ne-eqb _ _ (λ e. c .if3 .taken (l .compared .ensures ∙ e)),
     )
 
-returns-4 : tie.Need-returns-4
+-- the call, from where the data are compared
+abbrev start : tie.After-same → tie.Start
+start c = c .before .before .before .before .before .before .before .before .before
+
+-- header and Le agree: the data decide
+by-data : (c : tie.After-same) (r : Comparison) → said r ≡ is (c .same .result)
+    → eq-is (start c .args .self) (start c .args .«data» .now) (start c .args .view) (start c .args .other .now) r
 unfolding equalTo
-returns-4 c =
-    let t = c .before .before in
-    let l = t .before .before in
+by-data c r e =
+    let l = c .before .before .before in
     let h = l .before in
     rw (
       le-ltb _ _ (h .before .before .if1 .left),
       sym (h .before .same-header .ensures) ∙ not-false _ (h .if2 .left),
-      eq-eqb _ _ (sym (l .compared .ensures) ∙ t .if3 .left),
-      sym (same-by _ _ _ (c .before .same .ensures)) ∙ c .if4 .taken,
-    )
+      eq-eqb _ _ (sym (l .compared .ensures) ∙ c .before .if3 .left),
+      sym (same-by _ _ _ (c .same .ensures)),
+    ) e
+
+returns-4 : tie.Need-returns-4
+returns-4 c = by-data (c .before) Equal (ap is (sym (c .if4 .taken)))
 
 returns-5 : tie.Need-returns-5
-unfolding equalTo
-returns-5 c =
-    let t = c .before .before in
-    let l = t .before .before in
-    let h = l .before in
-    rw (
-      le-ltb _ _ (h .before .before .if1 .left),
-      sym (h .before .same-header .ensures) ∙ not-false _ (h .if2 .left),
-      eq-eqb _ _ (sym (l .compared .ensures) ∙ t .if3 .left),
-      sym (same-by _ _ _ (c .before .same .ensures)) ∙ c .if4 .left,
-    )
+returns-5 c = by-data (c .before) Different (ap is (sym (c .if4 .left)))
 
 pub eq-spec : {M : Type 1} → statement M
 eq-spec =

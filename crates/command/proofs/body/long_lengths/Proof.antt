@@ -1,25 +1,22 @@
 use borrow.Author.Needs.{needs}
-use borrow.Author.Tests.{eq-eqb, ne-eqb}
-use Rattle.command.specs.Body.{longBody}
+use mathlib.Core.Path.{sym, _∙_}
+use Rattle.command.proofs.Lengths.{long-alone, long-with-le, long-other}
 use Rattle.command.proofs.body.long_lengths.Statement.{statement}
 use Rattle.command.proofs.body.long_lengths.Tie as tie
 
 returns : tie.Need-returns
-unfolding longBody
-returns c = rw (eq-eqb _ _ (c .before .if1 .taken)) (c .are .ensures)
+returns c = c .are .ensures ∙ sym (long-alone _ _ (c .before .if1 .taken))
 
 returns-2 : tie.Need-returns-2
-unfolding longBody
 returns-2 c =
     let w = c .before .before in
     let v = w .before .before in
     let i = v .before .before in
-    rw (ne-eqb _ _ (i .before .if1 .left), eq-eqb _ _ (i .if2 .taken), ← v .wide .ensures .0, ← w .wide2 .ensures .0)
+    rw (long-with-le _ _ (i .if2 .taken), ← v .wide .ensures .0, ← w .wide2 .ensures .0)
     (rw (← c .before .replace-zero .ensures) (c .are2 .ensures))
 
 returns-3 : tie.Need-returns-3
-unfolding longBody
-returns-3 c = rw (ne-eqb _ _ (c .before .if1 .left), ne-eqb _ _ (c .if2 .left))
+returns-3 c = sym (long-other _ _ (c .before .if1 .left) (c .if2 .left))
 
 pub long-lengths-spec : {M : Type 1} → statement M
 long-lengths-spec =

@@ -27,14 +27,11 @@ put-decimal-at t = and 1 put-decimal-kinds.ps (is 1 put-decimal-kinds.ps μ-put-
 abbrev put-decimal-below : ℕ → In 1 put-decimal-kinds.ps
 put-decimal-below t = and 1 put-decimal-kinds.ps (falls 1 put-decimal-kinds.ps _<_ μ-put-decimal t) put-decimal.Pre
 
-put-decimal-returns : (t : ℕ) → put-decimal-lts.Need-returns (
-  digit-reads.Asked,
-  digit-reads.Learnt,
-  put-byte-reads.Asked,
-  put-byte-reads.Learnt,
-  put-decimal-below t,
-  put-decimal.Post,
-) (put-decimal-at t) put-decimal.Post
+-- what the calls ask and promise
+abbrev claims : ℕ → put-decimal-lts.Claims
+claims t = (digit-reads.Asked, digit-reads.Learnt, put-byte-reads.Asked, put-byte-reads.Learnt, put-decimal-below t, put-decimal.Post)
+
+put-decimal-returns : (t : ℕ) → put-decimal-lts.Need-returns (claims t) (put-decimal-at t) put-decimal.Post
 put-decimal-returns t c =
     let c2 = c .before .before in
     let c3 = c2 .before in
@@ -46,26 +43,12 @@ put-decimal-returns t c =
     (ap (λ (x : ℕ). x ∷ []) (c3 .digit .ensures) ∙ sym (decimal-one (a .n) (omega (arith, c5 .if1 .taken))))
     (c2 .put-byte .ensures))
 
-put-decimal-requires : (t : ℕ) → put-decimal-lts.Need-put-decimal-requires (
-  digit-reads.Asked,
-  digit-reads.Learnt,
-  put-byte-reads.Asked,
-  put-byte-reads.Learnt,
-  put-decimal-below t,
-  put-decimal.Post,
-) (put-decimal-at t) put-decimal.Post
+put-decimal-requires : (t : ℕ) → put-decimal-lts.Need-put-decimal-requires (claims t) (put-decimal-at t) put-decimal.Post
 put-decimal-requires t c κs =
     let p = c .before .before .before .pre in
     (omega (arith, p .0, c .before .if1 .left), (omega (arith, p .1), omega (arith, p .1)))
 
-put-byte-requires-2 : (t : ℕ) → put-decimal-lts.Need-put-byte-requires-2 (
-  digit-reads.Asked,
-  digit-reads.Learnt,
-  put-byte-reads.Asked,
-  put-byte-reads.Learnt,
-  put-decimal-below t,
-  put-decimal.Post,
-) (put-decimal-at t) put-decimal.Post
+put-byte-requires-2 : (t : ℕ) → put-decimal-lts.Need-put-byte-requires-2 (claims t) (put-decimal-at t) put-decimal.Post
 put-byte-requires-2 t c κs =
     let c4 = c .before .before .before .before in
     let c6 = c4 .before .before in
@@ -80,14 +63,7 @@ put-byte-requires-2 t c κs =
       c8 .pre .1,
     )
 
-put-decimal-returns-2 : (t : ℕ) → put-decimal-lts.Need-returns-2 (
-  digit-reads.Asked,
-  digit-reads.Learnt,
-  put-byte-reads.Asked,
-  put-byte-reads.Learnt,
-  put-decimal-below t,
-  put-decimal.Post,
-) (put-decimal-at t) put-decimal.Post
+put-decimal-returns-2 : (t : ℕ) → put-decimal-lts.Need-returns-2 (claims t) (put-decimal-at t) put-decimal.Post
 put-decimal-returns-2 t c =
     let c2 = c .before .before in
     let c3 = c2 .before in
@@ -103,14 +79,7 @@ put-decimal-returns-2 t c =
 
 pub +put-decimal-spec : {M : Type 1} → statement M
 +put-decimal-spec =
-    close μ-put-decimal (λ t. put-decimal-lts.spec (
-      digit-reads.Asked,
-      digit-reads.Learnt,
-      put-byte-reads.Asked,
-      put-byte-reads.Learnt,
-      put-decimal-below t,
-      put-decimal.Post,
-    ) (put-decimal-at t) put-decimal.Post
+    close μ-put-decimal (λ t. put-decimal-lts.spec (claims t) (put-decimal-at t) put-decimal.Post
     (λ c κs. search needs)
     (λ c κs. omega (arith, c .before .before .before .before .pre .1))
     (λ c. search needs)

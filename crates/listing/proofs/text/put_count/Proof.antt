@@ -1,7 +1,7 @@
 use borrow.Author.Needs.{needs}
 use native.Mathlib.Omega.{arith}
 use Rattle.listing.specs.Text.{countLine}
-use Rattle.listing.proofs.Writing.{puts-next, puts-most}
+use Rattle.listing.proofs.Writing.{puts-three, puts-most}
 use Rattle.listing.proofs.text.put_count.Statement.{statement}
 use Rattle.listing.proofs.text.put_count.Tie as tie
 
@@ -13,7 +13,7 @@ returns c =
     let c10 = c6 .before .before .before .before in
     let c14 = c10 .before .before .before .before in
     puts-most 48 (omega (arith, c14 .pre))
-    (puts-next (search needs) (puts-next (search needs) (c10 .put-word .ensures) (c6 .put-decimal .ensures)) (c2 .put-byte .ensures))
+    (puts-three (search needs) (c10 .put-word .ensures) (c6 .put-decimal .ensures) (c2 .put-byte .ensures))
 
 pub put-count-spec : {M : Type 1} → statement M
 put-count-spec =

@@ -1,7 +1,7 @@
 use borrow.Author.Needs.{needs}
 use native.Mathlib.Omega.{arith}
 use Rattle.listing.specs.Text.{objectLine}
-use Rattle.listing.proofs.Writing.{puts-next, puts-most}
+use Rattle.listing.proofs.Writing.{puts-next, puts-three, puts-most}
 use Rattle.listing.proofs.text.put_object.Statement.{statement}
 use Rattle.listing.proofs.text.put_object.Tie as tie
 
@@ -16,12 +16,9 @@ returns c =
     let c22 = c18 .before .before .before .before in
     puts-most 48 (omega arith)
     (puts-next (search needs)
-    (puts-next (search needs)
-    (puts-next (search needs)
-    (puts-next (search needs)
-    (puts-next (search needs) (c22 .put-place .ensures) (c18 .put-byte .ensures))
-    (c14 .put-tag .ensures))
-    (c10 .put-byte2 .ensures))
+    (puts-three (search needs)
+    (puts-three (search needs) (c22 .put-place .ensures) (c18 .put-byte .ensures) (c14 .put-tag .ensures))
+    (c10 .put-byte2 .ensures)
     (c6 .put-decimal .ensures))
     (c2 .put-byte3 .ensures))
 

@@ -1,6 +1,6 @@
 use borrow.Author.Needs.{needs}
 use Rattle.listing.specs.Text.{refusedText}
-use Rattle.listing.proofs.Writing.{puts-next}
+use Rattle.listing.proofs.Writing.{puts-three}
 use Rattle.listing.proofs.text.put_refused.Statement.{statement}
 use Rattle.listing.proofs.text.put_refused.Tie as tie
 
@@ -10,7 +10,7 @@ returns c =
     let c2 = c .before .before in
     let c6 = c2 .before .before .before .before in
     let c10 = c6 .before .before .before .before in
-    puts-next (search needs) (puts-next (search needs) (c10 .put-word .ensures) (c6 .put-decimal .ensures)) (c2 .put-byte .ensures)
+    puts-three (search needs) (c10 .put-word .ensures) (c6 .put-decimal .ensures) (c2 .put-byte .ensures)
 
 pub put-refused-spec : {M : Type 1} → statement M
 put-refused-spec =
