@@ -2,9 +2,12 @@
 use Prim.Native.Nat.{ℕ}
 use mathlib.Core.List.{List, [], _∷_}
 use Rattle.basis.specs.Reply.{Reply, is, then}
-use Rattle.tlv.specs.Lookup.{lookup}
+use Rattle.tlv.specs.Lookup.{Span, lookup}
 use Rattle.exports_tlv.specs.Numbers.{readingNumbered}
 
 -- the place of the value in the record, and its length
+abbrev pub toldPlace : Reply Span → Reply (List ℕ)
+toldPlace x = then x (λ p. is (p .at ∷ p .len ∷ []))
+
 unfoldable pub ofLookup : ℕ → List ℕ → List ℕ → Reply (List ℕ)
-ofLookup n s path = then (lookup (readingNumbered n) s path) (λ p. is (p .at ∷ p .len ∷ []))
+ofLookup n s path = toldPlace (lookup (readingNumbered n) s path)

@@ -7,9 +7,9 @@ use mathlib.Core.List.{List, [], _∷_}
 use lib.Dec.{eqb}
 use Rattle.basis.specs.Reply.{Reply, is, no, then}
 use Rattle.tell.specs.Answers.{Copied}
-use Rattle.tlv.specs.Tag.{tagOf}
-use Rattle.tlv.specs.Len.{lenOf}
-use Rattle.tlv.specs.Object.{objectOf}
+use Rattle.tlv.specs.Tag.{Tag, tagOf}
+use Rattle.tlv.specs.Len.{Len, lenOf}
+use Rattle.tlv.specs.Object.{Object, objectOf}
 use Rattle.tlv.specs.Lookup.{Span, part, lookup}
 use Rattle.tlv.specs.declared.Reading.{Reading}
 use Rattle.tlv.specs.declared.Reading.the-variants.{Crate, Standard}
@@ -19,16 +19,25 @@ unfoldable pub readingNumbered : ℕ → Reading
 readingNumbered n = cond (eqb n 0) Crate Standard
 
 -- a tag and how many bytes it takes
+abbrev pub toldTag : Reply Tag → Reply (List ℕ)
+toldTag x = then x (λ t. is (t .number ∷ t .size ∷ []))
+
 unfoldable pub ofTag : ℕ → List ℕ → Reply (List ℕ)
-ofTag n s = then (tagOf (readingNumbered n) s) (λ t. is (t .number ∷ t .size ∷ []))
+ofTag n s = toldTag (tagOf (readingNumbered n) s)
 
 -- a length and how many bytes it takes
+abbrev pub toldLen : Reply Len → Reply (List ℕ)
+toldLen x = then x (λ l. is (l .number ∷ l .size ∷ []))
+
 unfoldable pub ofLen : ℕ → List ℕ → Reply (List ℕ)
-ofLen n s = then (lenOf (readingNumbered n) s) (λ l. is (l .number ∷ l .size ∷ []))
+ofLen n s = toldLen (lenOf (readingNumbered n) s)
 
 -- an object's tag, the place of its value, and the value's length
+abbrev pub toldObject : Reply Object → Reply (List ℕ)
+toldObject x = then x (λ o. is (o .tag ∷ o .at ∷ o .len ∷ []))
+
 unfoldable pub ofObject : ℕ → List ℕ → Reply (List ℕ)
-ofObject n s = then (objectOf (readingNumbered n) s) (λ o. is (o .tag ∷ o .at ∷ o .len ∷ []))
+ofObject n s = toldObject (objectOf (readingNumbered n) s)
 
 -- the promise of `reading_numbered`
 abbrev pub reading-is : ℕ → Reading → Type 0

@@ -1,9 +1,12 @@
 // What a host program calls of a tag, a length, an object and a value found: numbers, and a copy of the value. Each function
 // replies 0, or the number of a refusal of document 01.
-ghost use Rattle.tell.specs.Answers.{Answers};
-ghost use Rattle.exports_tlv.specs.Numbers.{reading-is, ofTag, ofLen, ofObject, ValueCopied};
-use tell::refuse;
-use tell::tell;
+ghost use Rattle.tell.specs.Answers.{Answers, Numbered};
+ghost use Rattle.tlv.specs.Tag as tag;
+ghost use Rattle.tlv.specs.Len as len;
+ghost use Rattle.tlv.specs.Object as object;
+ghost use Rattle.exports_tlv.specs.Numbers.{reading-is, toldTag, toldLen, toldObject, ofTag, ofLen, ofObject, ValueCopied};
+use tell::Numbers;
+use tell::answer;
 use tlv::GetDataObject;
 use tlv::Reading;
 use tlv::TakeDataObject;
@@ -20,45 +23,57 @@ pub fn reading_numbered(reading: u8) -> Reading
     Reading::Standard
 }
 
+fn tag_numbers(taken: TakeTag) -> Numbers
+    ensures { λ r. ⌜ Numbered (toldTag (tag.said taken)) r ⌝ }
+{
+    match taken {
+        TakeTag::End => Numbers(11, 0, 0, 0),
+        TakeTag::Unreadable => Numbers(12, 0, 0, 0),
+        TakeTag::Tag(tag, size) => Numbers(0, tag as u64, size as u64, 0),
+    }
+}
+
+fn len_numbers(taken: TakeLen) -> Numbers
+    ensures { λ r. ⌜ Numbered (toldLen (len.said taken)) r ⌝ }
+{
+    match taken {
+        TakeLen::Unreadable => Numbers(12, 0, 0, 0),
+        TakeLen::Len(len, size) => Numbers(0, len as u64, size as u64, 0),
+    }
+}
+
+fn object_numbers(taken: TakeDataObject) -> Numbers
+    ensures { λ r. ⌜ Numbered (toldObject (object.said taken)) r ⌝ }
+{
+    match taken {
+        TakeDataObject::End => Numbers(11, 0, 0, 0),
+        TakeDataObject::Unreadable => Numbers(12, 0, 0, 0),
+        TakeDataObject::Object(tag, at, len) => Numbers(0, tag as u64, at as u64, len as u64),
+    }
+}
+
 #[no_mangle]
 pub extern "C" fn gorvisclen_take_tag(reading: u8, bytes: &[u8], out: &mut [u64]) -> u8
     ensures { λ r. ⌜ Answers 2 (ofTag reading (now (bytes .entry))) (now (out .entry)) r (now (out .exit)) ⌝ }
 {
-    match tlv::take_tag(reading_numbered(reading), bytes) {
-        TakeTag::End => refuse(11, out.len(), 2),
-        TakeTag::Unreadable => refuse(12, out.len(), 2),
-        TakeTag::Tag(tag, size) => {
-            let told = [tag as u64, size as u64];
-            tell(&told, out)
-        }
-    }
+    let tag = tag_numbers(tlv::take_tag(reading_numbered(reading), bytes));
+    answer(tag.0, &[tag.1, tag.2], out)
 }
 
 #[no_mangle]
 pub extern "C" fn gorvisclen_take_len(reading: u8, bytes: &[u8], out: &mut [u64]) -> u8
     ensures { λ r. ⌜ Answers 2 (ofLen reading (now (bytes .entry))) (now (out .entry)) r (now (out .exit)) ⌝ }
 {
-    match tlv::take_len(reading_numbered(reading), bytes) {
-        TakeLen::Unreadable => refuse(12, out.len(), 2),
-        TakeLen::Len(len, size) => {
-            let told = [len as u64, size as u64];
-            tell(&told, out)
-        }
-    }
+    let len = len_numbers(tlv::take_len(reading_numbered(reading), bytes));
+    answer(len.0, &[len.1, len.2], out)
 }
 
 #[no_mangle]
 pub extern "C" fn gorvisclen_take_data_object(reading: u8, bytes: &[u8], out: &mut [u64]) -> u8
     ensures { λ r. ⌜ Answers 3 (ofObject reading (now (bytes .entry))) (now (out .entry)) r (now (out .exit)) ⌝ }
 {
-    match tlv::take_data_object(reading_numbered(reading), bytes) {
-        TakeDataObject::End => refuse(11, out.len(), 3),
-        TakeDataObject::Unreadable => refuse(12, out.len(), 3),
-        TakeDataObject::Object(tag, at, len) => {
-            let told = [tag as u64, at as u64, len as u64];
-            tell(&told, out)
-        }
-    }
+    let object = object_numbers(tlv::take_data_object(reading_numbered(reading), bytes));
+    answer(object.0, &[object.1, object.2, object.3], out)
 }
 
 #[no_mangle]

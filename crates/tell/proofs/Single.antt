@@ -5,7 +5,7 @@ use mathlib.Core.Bool.{Bool}
 use mathlib.Core.List.{List}
 use lib.ListN.{length}
 use Rattle.basis.specs.Reply.{Reply, is}
-use Rattle.tell.specs.Answers.{Answers, Copied, refuse-is, flag-is}
+use Rattle.tell.specs.Answers.{Answers, unlessRefused, Copied, refuse-is, flag-is}
 
 -- two answers with the m numbers of one reply
 abbrev pub One : ℕ → Reply (List ℕ) → Type 0
@@ -16,6 +16,9 @@ one m x out r s a b p q = (p .reply ∙⁻¹ q .reply, p .told ∙⁻¹ q .told)
 
 pub tell : (numbers : List ℕ) → One (length numbers) (is numbers)
 tell numbers = one (length numbers) (is numbers)
+
+pub answer : (k : ℕ) (numbers : List ℕ) → One (length numbers) (unlessRefused k numbers)
+answer k numbers = one (length numbers) (unlessRefused k numbers)
 
 pub copy : (d to out : List ℕ) (r s : ℕ) (a b x y : List ℕ) → Copied d to out r a x → Copied d to out s b y
     → (r ≡ s) × (a ≡ b) × (x ≡ y)

@@ -2,13 +2,14 @@
 -- the slice is too short, unless a smaller number is given; a refusal writes nothing.
 use Prim.Native.Nat.{ℕ}
 use mathlib.Core.Path.{_≡_}
-use mathlib.Core.Bool.{Bool, cond}
+use mathlib.Core.Bool.{Bool, true, false, cond}
 use mathlib.Core.List.{List, [], _∷_}
 use mathlib.Core.Option.{Option, none, some}
-use lib.Dec.{ltb}
-use lib.ListN.{length}
+use lib.Dec.{eqb, ltb}
+use lib.ListN.{length, getD}
 use Rattle.basis.specs.Reply.{Reply, is, no, status}
 use Rattle.basis.specs.Part.{over}
+use Rattle.tell.specs.declared.Numbers.{Numbers}
 
 -- what is said where a slice is too short
 abbrev pub atMost16 : ℕ → ℕ
@@ -31,6 +32,27 @@ outAfter (no k) out = out
 pub record Answers (m : ℕ) (x : Reply (List ℕ)) (out : List ℕ) (r : ℕ) (after : List ℕ) : Type 0 where
   pub reply : r ≡ status (fitting m (length out) x)
   pub told : after ≡ outAfter (fitting m (length out) x) out
+
+-- numbers where the refusal given is 0; otherwise that refusal
+abbrev pub unlessRefused : ℕ → List ℕ → Reply (List ℕ)
+unlessRefused k vs = cond (eqb k 0) (is vs) (no k)
+
+-- whether a reply has numbers, and each of them
+abbrev pub isTold : Reply (List ℕ) → Bool
+isTold (is vs) = true
+isTold (no k) = false
+
+abbrev pub nth : ℕ → Reply (List ℕ) → ℕ
+nth i (is vs) = getD vs i 0
+nth i (no k) = 0
+
+-- the promise of a function that makes `Numbers` of a reply
+pub record Numbered (x : Reply (List ℕ)) (r : Numbers) : Type 0 where
+  pub refusal : r .0 ≡ status x
+  pub none : eqb (r .0) 0 ≡ isTold x
+  pub first : r .1 ≡ nth 0 x
+  pub second : r .2 ≡ nth 1 x
+  pub third : r .3 ≡ nth 2 x
 
 -- bytes d copied to the front of a slice of m, their count told in a slice of n: 16 where either is too short
 abbrev pub counted : ℕ → ℕ → ℕ → Reply (List ℕ)

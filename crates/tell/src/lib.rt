@@ -1,7 +1,10 @@
 // How the exported functions answer a host: a status, and numbers at the front of a lent slice.
 ghost use Rattle.basis.specs.Reply.{is};
-ghost use Rattle.tell.specs.Answers.{Answers, Copied, refuse-is, flag-is};
+ghost use Rattle.tell.specs.Answers.{Answers, unlessRefused, Copied, refuse-is, flag-is};
 ghost use lib.ListN.{length};
+
+// An answer as numbers: its refusal, 0 where it has none, and up to three numbers that it tells then.
+pub struct Numbers(pub u8, pub u64, pub u64, pub u64);
 
 // Writes numbers to the front of a lent slice: 0, or 16 where it is too short.
 pub fn tell(numbers: &[u64], out: &mut [u64]) -> u8
@@ -29,6 +32,17 @@ pub fn refuse(k: u8, given: usize, wanted: usize) -> u8
         return k;
     }
     k
+}
+
+// Tells numbers where the refusal given is 0; otherwise replies its status.
+pub fn answer(refusal: u8, numbers: &[u64], out: &mut [u64]) -> u8
+    ensures { λ r. ⌜ Answers (length (now (numbers .entry))) (unlessRefused refusal (now (numbers .entry))) (now (out .entry)) r
+        (now (out .exit)) ⌝ }
+{
+    if refusal == 0 {
+        return tell(numbers, out);
+    }
+    refuse(refusal, out.len(), numbers.len())
 }
 
 // 1 for true and 0 for false.
