@@ -14,20 +14,12 @@ use Rattle.command.specs.declared.owned.Owned.{Owned}
 use Rattle.command.specs.declared.owned.Owned.the-variants as owned
 use Rattle.command.specs.declared.owned.Extended.{Extended}
 use Rattle.tell.specs.Answers.{short, outAfter, Answers}
+use Rattle.tell.proofs.Answers.{after-short}
 use Rattle.exports_owned.specs.Copies.{commandNumbers, ofLength, OwnedCopied, Extends}
 
 status-done : (x : Reply ℕ) → status (done x) ≡ status x
 status-done (is n) = refl
 status-done (no k) = refl
-
--- a slice too short leaves the room and itself
-copied-short : (x : Reply Command) (d room : List ℕ) → room ≡ copied (short x) d room
-copied-short (is c) d room = refl
-copied-short (no k) d room = refl
-
-written-short : (x : Reply Command) (out : List ℕ) → out ≡ outAfter (then (short x) (λ c. is (commandNumbers c))) out
-written-short (is c) out = refl
-written-short (no k) out = refl
 
 -- an owned copy: no room for its numbers; refused; told
 module _ (r : Reading) (s room out : List ℕ) where
@@ -37,7 +29,11 @@ module _ (r : Reading) (s room out : List ℕ) where
   pub owned-short : length out < 7 → (k : ℕ) → k ≡ status (short x) → OwnedCopied r s room out k room out
   owned-short h k e =
       let n = lt-ltb (length out) 7 h in
-      record { reply = rw n e; bytes = rw n (copied-short x (dataIn s (parse r s)) room); told = rw n (written-short x out) }
+      record {
+        reply = rw n e;
+        bytes = rw n (after-short (λ y. copied y (dataIn s (parse r s)) room) room x (λ i. refl));
+        told = rw n (after-short (λ y. outAfter (then y (λ c. is (commandNumbers c))) out) out x (λ i. refl));
+      }
 
   pub owned-no : 7 ≤ length out → (o : Owned) (k : ℕ) (after : List ℕ) → owned-is r s room o after → o ≡ owned.Refused k
       → OwnedCopied r s room out k after out

@@ -9,9 +9,9 @@ use Rattle.command.specs.Command.{parse, dataIn}
 use Rattle.command.specs.declared.CommandView.{CommandView}
 use Rattle.command.specs.declared.owned.Command.{Command}
 use Rattle.tell.specs.Answers.{fitting}
-use Rattle.tell.proofs.Single.{copy}
+use Rattle.tell.proofs.Single.{one-copy}
 use Rattle.exports_command.specs.Numbers.{readingNumbered}
-use Rattle.exports_owned.specs.Copies.{command-numbers-is, of-length-is, CopiedBy, DataCopied, OwnedCopied, ExtendsBy, Extended}
+use Rattle.exports_owned.specs.Copies.{command-numbers-is, of-length-is, dataBy, DataCopied, OwnedCopied, ExtendsBy, Extended}
 
 pub command-numbers : (c : Command) (a b : List ℕ) → command-numbers-is c a → command-numbers-is c b → a ≡ b
 command-numbers c a b h g = h ∙⁻¹ g
@@ -19,14 +19,9 @@ command-numbers c a b h g = h ∙⁻¹ g
 pub of-length : (n : ℕ) (a b : Command) → of-length-is n a → of-length-is n b → a ≡ b
 of-length n a b h g = h ∙⁻¹ g
 
-data-once : (v : Reply CommandView) (s to out : List ℕ) (r q : ℕ) (a b x y : List ℕ) → CopiedBy v s to out r a x
-    → CopiedBy v s to out q b y → (r ≡ q) × (a ≡ b) × (x ≡ y)
-data-once (is v) s to out r q a b x y h g = copy (dataIn s (is v)) to out r q a b x y h g
-data-once (no k) s to out r q a b x y h g = (h .0 ∙⁻¹ g .0, h .1 ∙⁻¹ g .1, h .2 ∙⁻¹ g .2)
-
 pub gorvisclen-command-data : (n : ℕ) (s to out : List ℕ) (r q : ℕ) (a b x y : List ℕ) → DataCopied n s to out r a x
     → DataCopied n s to out q b y → (r ≡ q) × (a ≡ b) × (x ≡ y)
-gorvisclen-command-data n s = data-once (parse (readingNumbered n) s) s
+gorvisclen-command-data n s = one-copy (dataBy n s)
 
 pub gorvisclen-command-owned : (n : ℕ) (s room out : List ℕ) (r q : ℕ) (a b x y : List ℕ)
     → OwnedCopied (readingNumbered n) s room out r a x → OwnedCopied (readingNumbered n) s room out q b y → (r ≡ q) × (a ≡ b) × (x ≡ y)

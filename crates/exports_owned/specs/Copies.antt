@@ -12,17 +12,16 @@ use Rattle.command.specs.Command.{parse, dataIn}
 use Rattle.command.specs.Owned.{takenOf, ownedOf, copied, extendOf as extending, heldAfter, extendedRoom}
 use Rattle.command.specs.declared.CommandView.{CommandView}
 use Rattle.command.specs.declared.owned.Command.{Command}
-use Rattle.tell.specs.Answers.{flagOf, fitting, outAfter, Copied, refuse-is}
+use Rattle.tell.specs.Answers.{flagOf, fitting, outAfter, CopiedBy}
 use Rattle.exports_command.specs.Numbers.{readingNumbered}
 
--- the data of a command that was read, copied and counted; a refusal changes nothing
-abbrev pub CopiedBy : Reply CommandView → List ℕ → List ℕ → List ℕ → ℕ → List ℕ → List ℕ → Type 0
-CopiedBy (is v) s to out r to′ out′ = Copied (dataIn s (is v)) to out r to′ out′
-CopiedBy (no k) s to out r to′ out′ = refuse-is k (length out) 1 r × (to′ ≡ to) × (out′ ≡ out)
+-- the data of a command that was read
+abbrev pub dataBy : ℕ → List ℕ → Reply (List ℕ)
+dataBy n s = then (parse (readingNumbered n) s) (λ v. is (dataIn s (is v)))
 
 -- the promise of `gorvisclen_command_data`
 abbrev pub DataCopied : ℕ → List ℕ → List ℕ → List ℕ → ℕ → List ℕ → List ℕ → Type 0
-DataCopied n s to out r to′ out′ = CopiedBy (parse (readingNumbered n) s) s to out r to′ out′
+DataCopied n s = CopiedBy (dataBy n s)
 
 -- class, instruction, P1, P2, length of the data, expected length, extended: the data stand at the room's beginning
 unfoldable pub commandNumbers : Command → List ℕ

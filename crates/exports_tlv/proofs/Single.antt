@@ -2,11 +2,9 @@
 use Prim.Native.Nat.{ℕ}
 use mathlib.Core.Path.{_≡_, _∙⁻¹_}
 use mathlib.Core.List.{List}
-use Rattle.basis.specs.Reply.{Reply, is, no}
-use Rattle.tell.proofs.Single.{One, one, copy}
-use Rattle.tlv.specs.Lookup.{Span, part, lookup}
+use Rattle.tell.proofs.Single.{One, one, one-copy}
 use Rattle.tlv.specs.declared.Reading.{Reading}
-use Rattle.exports_tlv.specs.Numbers.{readingNumbered, reading-is, ofTag, ofLen, ofObject, CopiedBy, ValueCopied}
+use Rattle.exports_tlv.specs.Numbers.{reading-is, ofTag, ofLen, ofObject, valueBy, ValueCopied}
 
 pub reading-numbered : (n : ℕ) (r s : Reading) → reading-is n r → reading-is n s → r ≡ s
 reading-numbered n r s p q = p ∙⁻¹ q
@@ -20,11 +18,6 @@ gorvisclen-take-len n s = one 2 (ofLen n s)
 pub gorvisclen-take-data-object : (n : ℕ) (s : List ℕ) → One 3 (ofObject n s)
 gorvisclen-take-data-object n s = one 3 (ofObject n s)
 
-copied-once : (x : Reply Span) (s to out : List ℕ) (r r′ : ℕ) (a b u v : List ℕ)
-    → CopiedBy x s to out r a u → CopiedBy x s to out r′ b v → (r ≡ r′) × (a ≡ b) × (u ≡ v)
-copied-once (is p) s to out r r′ a b u v g h = copy (part s p) to out r r′ a b u v g h
-copied-once (no k) s to out r r′ a b u v g h = (g .0 ∙⁻¹ h .0, g .1 ∙⁻¹ h .1, g .2 ∙⁻¹ h .2)
-
 pub gorvisclen-value : (n : ℕ) (s path to out : List ℕ) (r r′ : ℕ) (a b u v : List ℕ)
     → ValueCopied n s path to out r a u → ValueCopied n s path to out r′ b v → (r ≡ r′) × (a ≡ b) × (u ≡ v)
-gorvisclen-value n s path = copied-once (lookup (readingNumbered n) s path) s
+gorvisclen-value n s path = one-copy (valueBy n s path)

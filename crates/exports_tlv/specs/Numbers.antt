@@ -5,12 +5,12 @@ use mathlib.Core.Path.{_≡_}
 use mathlib.Core.Bool.{cond}
 use mathlib.Core.List.{List, [], _∷_}
 use lib.Dec.{eqb}
-use Rattle.basis.specs.Reply.{Reply, is, no, then}
-use Rattle.tell.specs.Answers.{Copied}
+use Rattle.basis.specs.Reply.{Reply, is, then}
+use Rattle.tell.specs.Answers.{CopiedBy}
 use Rattle.tlv.specs.Tag.{Tag, tagOf}
 use Rattle.tlv.specs.Len.{Len, lenOf}
 use Rattle.tlv.specs.Object.{Object, objectOf}
-use Rattle.tlv.specs.Lookup.{Span, part, lookup}
+use Rattle.tlv.specs.Lookup.{part, lookup}
 use Rattle.tlv.specs.declared.Reading.{Reading}
 use Rattle.tlv.specs.declared.Reading.the-variants.{Crate, Standard}
 
@@ -43,11 +43,10 @@ ofObject n s = toldObject (objectOf (readingNumbered n) s)
 abbrev pub reading-is : ℕ → Reading → Type 0
 reading-is n r = r ≡ readingNumbered n
 
--- a value found, copied and counted; a refused lookup changes nothing (11 and 12 are below 16)
-abbrev pub CopiedBy : Reply Span → List ℕ → List ℕ → List ℕ → ℕ → List ℕ → List ℕ → Type 0
-CopiedBy (is p) s to out r to′ out′ = Copied (part s p) to out r to′ out′
-CopiedBy (no k) s to out r to′ out′ = (r ≡ k) × (to′ ≡ to) × (out′ ≡ out)
+-- the bytes of a value found
+abbrev pub valueBy : ℕ → List ℕ → List ℕ → Reply (List ℕ)
+valueBy n s path = then (lookup (readingNumbered n) s path) (λ p. is (part s p))
 
 -- the promise of `gorvisclen_value`
 abbrev pub ValueCopied : ℕ → List ℕ → List ℕ → List ℕ → List ℕ → ℕ → List ℕ → List ℕ → Type 0
-ValueCopied n s path to out r to′ out′ = CopiedBy (lookup (readingNumbered n) s path) s to out r to′ out′
+ValueCopied n s path = CopiedBy (valueBy n s path)

@@ -7,6 +7,7 @@ ghost use Rattle.tlv.specs.Object as object;
 ghost use Rattle.exports_tlv.specs.Numbers.{reading-is, toldTag, toldLen, toldObject, ofTag, ofLen, ofObject, ValueCopied};
 use tell::Numbers;
 use tell::answer;
+use tell::refuse;
 use tlv::GetDataObject;
 use tlv::Reading;
 use tlv::TakeDataObject;
@@ -89,8 +90,8 @@ pub extern "C" fn gorvisclen_value(
 {
     let by = reading_numbered(reading);
     match tlv::get_data_object(by, record, path) {
-        GetDataObject::End => 11,
-        GetDataObject::Unreadable => 12,
+        GetDataObject::End => refuse(11, out.len(), 1),
+        GetDataObject::Unreadable => refuse(12, out.len(), 1),
         GetDataObject::Value(_, _) => tell::copy(tlv::value(by, record, path), to, out),
     }
 }

@@ -15,6 +15,11 @@ pub said : {A : Type 0} (b : Bool) (k : ℕ) → cond b (short {A = A} (no k)) (
 said true k = refl
 said false k = refl
 
+-- a slice too short leaves what every refusal leaves
+pub after-short : {A B : Type 0} (after : Reply A → B) (b : B) (x : Reply A) → ((k : ℕ) → b ≡ after (no k)) → b ≡ after (short x)
+after-short after b (is a) h = h 16
+after-short after b (no k) h = h (atMost16 k)
+
 -- a refusal answers
 pub answers-no : (m k : ℕ) (out : List ℕ) (r : ℕ) → refuse-is k (length out) m r → Answers m (no k) out r out
 answers-no m k out r e = record { reply = rw said e; told = rw said }

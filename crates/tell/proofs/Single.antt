@@ -4,8 +4,8 @@ use mathlib.Core.Path.{_≡_, _∙⁻¹_}
 use mathlib.Core.Bool.{Bool}
 use mathlib.Core.List.{List}
 use lib.ListN.{length}
-use Rattle.basis.specs.Reply.{Reply, is}
-use Rattle.tell.specs.Answers.{Answers, unlessRefused, Copied, refuse-is, flag-is}
+use Rattle.basis.specs.Reply.{Reply, is, no}
+use Rattle.tell.specs.Answers.{Answers, unlessRefused, CopiedBy, refuse-is, flag-is}
 
 -- two answers with the m numbers of one reply
 abbrev pub One : ℕ → Reply (List ℕ) → Type 0
@@ -20,9 +20,17 @@ tell numbers = one (length numbers) (is numbers)
 pub answer : (k : ℕ) (numbers : List ℕ) → One (length numbers) (unlessRefused k numbers)
 answer k numbers = one (length numbers) (unlessRefused k numbers)
 
-pub copy : (d to out : List ℕ) (r s : ℕ) (a b x y : List ℕ) → Copied d to out r a x → Copied d to out s b y
-    → (r ≡ s) × (a ≡ b) × (x ≡ y)
-copy d to out r s a b x y p q = (p .reply ∙⁻¹ q .reply, p .bytes ∙⁻¹ q .bytes, p .told ∙⁻¹ q .told)
+-- two copies of the bytes of one reply
+abbrev pub OneCopy : Reply (List ℕ) → Type 0
+OneCopy x = (to out : List ℕ) (r s : ℕ) (a b u v : List ℕ) → CopiedBy x to out r a u → CopiedBy x to out s b v
+    → (r ≡ s) × (a ≡ b) × (u ≡ v)
+
+pub one-copy : (x : Reply (List ℕ)) → OneCopy x
+one-copy (is d) to out r s a b u v p q = (p .reply ∙⁻¹ q .reply, p .bytes ∙⁻¹ q .bytes, p .told ∙⁻¹ q .told)
+one-copy (no k) to out r s a b u v p q = (p .0 ∙⁻¹ q .0, p .1 ∙⁻¹ q .1, p .2 ∙⁻¹ q .2)
+
+pub copy : (d : List ℕ) → OneCopy (is d)
+copy d = one-copy (is d)
 
 pub refuse : (k n m r s : ℕ) → refuse-is k n m r → refuse-is k n m s → r ≡ s
 refuse k n m r s p q = p ∙⁻¹ q

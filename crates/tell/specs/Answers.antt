@@ -23,6 +23,10 @@ short (no k) = no (atMost16 k)
 abbrev pub fitting : {A : Type 0} → ℕ → ℕ → Reply A → Reply A
 fitting m n x = cond (ltb n m) (short x) x
 
+-- the promise of `refuse`
+abbrev pub refuse-is : ℕ → ℕ → ℕ → ℕ → Type 0
+refuse-is k n m r = r ≡ cond (ltb n m) (atMost16 k) k
+
 -- the slice after a reply
 abbrev pub outAfter : Reply (List ℕ) → List ℕ → List ℕ
 outAfter (is vs) out = over vs out
@@ -68,6 +72,11 @@ pub record Copied (d to out : List ℕ) (r : ℕ) (to′ out′ : List ℕ) : Ty
   pub bytes : to′ ≡ front (counted (length d) (length to) (length out)) d to
   pub told : out′ ≡ outAfter (counted (length d) (length to) (length out)) out
 
+-- the promise of a function that hands out the bytes of a reply; a refusal changes nothing
+abbrev pub CopiedBy : Reply (List ℕ) → List ℕ → List ℕ → ℕ → List ℕ → List ℕ → Type 0
+CopiedBy (is d) to out r to′ out′ = Copied d to out r to′ out′
+CopiedBy (no k) to out r to′ out′ = refuse-is k (length out) 1 r × (to′ ≡ to) × (out′ ≡ out)
+
 -- a truth value, and a number that may be missing: 256 where it is
 abbrev pub flagOf : Bool → ℕ
 flagOf b = cond b 1 0
@@ -76,9 +85,6 @@ abbrev pub orNone : Option ℕ → ℕ
 orNone none = 256
 orNone (some n) = n
 
--- the promises of `refuse` and `flag`
-abbrev pub refuse-is : ℕ → ℕ → ℕ → ℕ → Type 0
-refuse-is k n m r = r ≡ cond (ltb n m) (atMost16 k) k
-
+-- the promise of `flag`
 abbrev pub flag-is : Bool → ℕ → Type 0
 flag-is b r = r ≡ flagOf b

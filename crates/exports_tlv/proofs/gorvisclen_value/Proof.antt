@@ -6,13 +6,13 @@ use Rattle.exports_tlv.proofs.gorvisclen_value.Tie as tie
 
 returns : tie.Need-returns
 returns c =
-    let g = c .before .before in
-    rw (← g .before .reading-numbered .ensures, sym (g .get-data-object .ensures) ∙ ap said (c .enum-told .given .1)) (refl, refl, refl)
+    let g = c .before .before .before in
+    rw (← g .before .reading-numbered .ensures, sym (g .get-data-object .ensures) ∙ ap said (c .before .enum-told .given .1)) (c .refuse .ensures, refl, refl)
 
 returns-2 : tie.Need-returns-2
 returns-2 c =
-    let g = c .before .before in
-    rw (← g .before .reading-numbered .ensures, sym (g .get-data-object .ensures) ∙ ap said (c .enum-told2 .given .1)) (refl, refl, refl)
+    let g = c .before .before .before in
+    rw (← g .before .reading-numbered .ensures, sym (g .get-data-object .ensures) ∙ ap said (c .before .enum-told2 .given .1)) (c .refuse2 .ensures, refl, refl)
 
 returns-3 : tie.Need-returns-3
 returns-3 c =
@@ -30,7 +30,9 @@ gorvisclen-value-spec =
     (λ c κs. search needs)
     (λ c κs. search needs)
     (λ c. search needs)
+    (λ c κs. search needs)
     (λ c. search needs)
+    (λ c κs. search needs)
     (λ c. search needs)
     (λ c κs. search needs)
     (λ c κs. search needs)

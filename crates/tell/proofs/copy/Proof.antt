@@ -25,7 +25,7 @@ returns-3 c =
     record {
       reply = rw (n, m);
       bytes = rw (n, m) (k .copy .ensures .1 ∙ copied _ _);
-      told = rw (n, m, k .copy .ensures .0) (stored (_ ∷ []) _ (omega arith));
+      told = rw (n, m, ← k .copy .ensures .0) (stored (_ ∷ []) _ (omega arith));
     }
 
 pub copy-spec : {M : Type 1} → statement M
