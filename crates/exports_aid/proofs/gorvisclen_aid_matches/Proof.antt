@@ -17,8 +17,8 @@ returns-2 c =
     let t = c .before .before in
     let f = t .before .before .before in
     let m = f .before in
-    rw (made _ _ _ (m .before .before .before .try-new-truncatable .ensures) (m .before .enum-told .given .1), ← m .matches .ensures, ← f .flag .ensures)
-    (t .tell .ensures)
+    rw (made _ _ _ (m .before .before .before .try-new-truncatable .ensures) (m .before .enum-told .given .1))
+    (rw (f .flag .ensures, m .matches .ensures) at (t .tell .ensures))
 
 pub gorvisclen-aid-matches-spec : {M : Type 1} → statement M
 gorvisclen-aid-matches-spec =

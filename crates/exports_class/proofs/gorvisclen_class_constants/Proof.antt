@@ -6,7 +6,7 @@ returns : tie.Need-returns
 returns c =
     let t = c .before .before in
     let m = t .before .before .before in
-    rw (← m .into-inner3 .ensures, ← m .before .into-inner2 .ensures, ← m .before .before .into-inner .ensures) (t .tell .ensures)
+    rw (m .into-inner3 .ensures, m .before .into-inner2 .ensures, m .before .before .into-inner .ensures) at (t .tell .ensures)
 
 pub gorvisclen-class-constants-spec : {M : Type 1} → statement M
 gorvisclen-class-constants-spec =

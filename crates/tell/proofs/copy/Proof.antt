@@ -1,7 +1,10 @@
 use borrow.Author.Needs.{needs}
-use mathlib.Core.Path.{_∙_}
+use mathlib.Core.Path.{_≡_, _∙_}
+use mathlib.Core.Bool.{true}
 use mathlib.Core.List.{[], _∷_}
 use native.Mathlib.Omega.{arith}
+use lib.Dec.{ltb}
+use lib.ListN.{length}
 use borrow.Author.Tests.{lt-ltb, le-ltb}
 use Rattle.basis.proofs.Part.{copied, stored}
 use Rattle.tell.proofs.copy.Statement.{statement}
@@ -14,7 +17,8 @@ returns c =
 returns-2 : tie.Need-returns-2
 returns-2 c =
     let n = le-ltb _ _ (c .before .if1 .left) in
-    let m = lt-ltb _ _ (c .if2 .taken) in
+    let a = c .before .before .before .before .before .args in
+    let m : ltb (length (a .to .now)) (length (a .part .now)) ≡ true = lt-ltb _ _ (c .if2 .taken) in
     record { reply = rw (n, m); bytes = rw (n, m); told = rw (n, m) }
 
 returns-3 : tie.Need-returns-3
