@@ -21,18 +21,16 @@ use Rattle.reassembler.specs.declared.Reassembler.{Reassembler}
 use Rattle.reassembler.specs.declared.Reassembler.the-variants.{Closed, Open}
 use Rattle.reassembler.specs.declared.Joined.{Joined}
 use Rattle.tell.specs.Answers.{short, outAfter, refuse-is, Answers, Copied}
-use Rattle.tell.proofs.Answers.{said as told-no, answers-no, told-done, told-all}
+use Rattle.tell.proofs.Answers.{said as told-no, answers-no, told-done, told-all, after-short}
 use Rattle.exports_owned.specs.Copies.{ofLength}
 use Rattle.exports_reassembler.specs.Numbers.{heldNumbers, recordNumbers, telling, metBy, joinedBy, roomAfter, usableOf, PieceJoined, JoinedData}
 
 -- a slice too short leaves itself and the room
 written-short : (x : Reply (List ℕ)) (out : List ℕ) → out ≡ outAfter (short x) out
-written-short (is vs) out = refl
-written-short (no k) out = refl
+written-short x out = after-short (λ y. outAfter y out) out x (λ k. refl)
 
 room-short : (x : Reply (List ℕ)) (after room : List ℕ) → room ≡ roomAfter (short x) after room
-room-short (is vs) after room = refl
-room-short (no k) after room = refl
+room-short x after room = after-short (λ y. roomAfter y after room) room x (λ k. refl)
 
 no-length : (ys : List ℕ) → length ys ≡ 0 → ys ≡ []
 no-length [] e = refl

@@ -10,7 +10,7 @@ use lib.ListN.{length, getD, take, drop, length-append, length-take, length-drop
 use lib.Seq.{getD-drop}
 use borrow.Author.Tests.{le-ltb}
 use Rattle.basis.specs.Reply.{Reply, is, no, then}
-use Rattle.basis.specs.Number.{be}
+use Rattle.basis.specs.Number.{Bytes, be}
 use Rattle.basis.proofs.Number.{length-be}
 use Rattle.basis.proofs.Reply.{no-is, All, all-is, all-cond, all-then}
 use Rattle.class.specs.Class.{fromByte}
@@ -37,7 +37,7 @@ use Rattle.listing.proofs.Commands.{le-few}
 use Rattle.listing.proofs.Decimal.{at-most-five}
 use Rattle.listing.proofs.Form.{count-few, pair-few, item-room}
 use Rattle.listing.proofs.Meeting.{Counted, counted-is, Sound, sound, Lies, found-lies}
-use Rattle.listing_laws.specs.Run.{Reached, Bytes, longestLine}
+use Rattle.listing_laws.specs.Run.{Reached, longestLine}
 use Rattle.listing_laws.proofs.Seen.{never-refused}
 
 -- a refusal's number is one byte

@@ -7,13 +7,13 @@ use lib.Dec.{ltb, leb, eqb}
 use lib.ListN.{length, getD, take, drop}
 use borrow.Author.Tests.{eqb-true, ltb-false}
 use Rattle.basis.proofs.Reply.{All, all-cond, all-then, all-every}
+use Rattle.basis.specs.Number.{Bytes}
 use Rattle.tlv.specs.Tag.{Tag, sizeBy, thirdBy, threeBytes, longTag, tagOf}
 use Rattle.tlv.specs.Len.{lenOf}
 use Rattle.tlv.specs.Object.{Object, objectOf}
 use Rattle.tlv.specs.declared.Reading.the-variants.{Crate}
 use Rattle.listing.specs.Text.{hex, hexes, tagText}
 use Rattle.listing.proofs.Tags.{tag-one, tag-two, tag-three}
-use Rattle.listing_laws.specs.Run.{Bytes}
 
 -- the text of a number is that of so many bytes at the front
 abbrev Own : List ℕ → ℕ → ℕ → Type 0

@@ -1,9 +1,9 @@
 -- The listing asked again and again. Document 01, "The listing": the lines joined are the text.
-use Prim.Native.Nat.{ℕ, _<_}
+use Prim.Native.Nat.{ℕ}
 use mathlib.Core.Path.{_≡_}
 use mathlib.Core.List.{List, [], _∷_, _++_}
 use mathlib.Core.Option.{none, some}
-use lib.ListN.{getD, take}
+use lib.ListN.{take}
 use Rattle.basis.specs.Reply.{is}
 use Rattle.listing.specs.Lines.{Given, stepOf, next-line-is}
 use Rattle.listing.specs.declared.lines.Lines.{Lines}
@@ -29,10 +29,6 @@ pub data Seen (s : List ℕ) : Lines → List ℕ → Type 0 where
 pub data Reached (s : List ℕ) : Lines → Type 0 where
   start : Reached s lines.Start
   behind : {st : Lines} {g : Given} → Reached s st → stepOf st s ≡ is (some g) → Reached s (g .rest)
-
--- a list of bytes
-abbrev pub Bytes : List ℕ → Type 0
-Bytes s = (i : ℕ) → getD s i 0 < 256
 
 -- how long a line is at most
 abbrev pub longestLine : ℕ
