@@ -24,6 +24,7 @@ noRid Standard = is tt
 noRid Proprietary = is tt
 noRid Other = is tt
 
+-- for a name under five bytes, by its first byte
 unfoldable pub underFive : ℕ → Reply (Unit {0})
 underFive b = noRid (categoryOf b)
 
@@ -38,6 +39,7 @@ tested name t =
 abbrev pub holding : List ℕ → ℕ → Aid
 holding name t = record { bytes = over name (replicate 16 0); len = length name; truncated = t }
 
+-- the AID of a name with a truncated length
 unfoldable pub tryNew : List ℕ → ℕ → Reply Aid
 tryNew name t = then (tested name t) (λ u. is (holding name t))
 

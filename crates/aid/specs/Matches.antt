@@ -8,11 +8,13 @@ use lib.ListN.{length}
 use Rattle.aid.specs.Part.{whole}
 use Rattle.aid.specs.declared.Aid.{Aid}
 
+-- whether the first list is a prefix of the second
 unfoldable pub prefix : List ℕ → List ℕ → Bool
 prefix [] l = true
 prefix (x ∷ xs) [] = false
 prefix (x ∷ xs) (y ∷ ys) = cond (eqb x y) (prefix xs ys) false
 
+-- whether a name selects an AID
 unfoldable pub matchesOf : Aid → List ℕ → Bool
 matchesOf a name = cond (ltb (length name) (a .truncated)) false (prefix name (whole a))
 

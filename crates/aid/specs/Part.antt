@@ -25,6 +25,7 @@ use Rattle.aid.specs.declared.part.Copied.the-variants as copied
 abbrev pub whole : Aid → List ℕ
 whole a = take (a .len) (a .bytes)
 
+-- the categories that have a registered provider
 abbrev pub registered : Category → Bool
 registered International = true
 registered National = true
@@ -36,6 +37,7 @@ registered Other = false
 unfoldable pub hasRid : Aid → Bool
 hasRid a = cond (registered (category a)) (leb 5 (length (whole a))) false
 
+-- a part of an AID: all its bytes, the truncated part, the RID of five bytes, the PIX behind it
 unfoldable pub partOf : Part → Aid → Option (List ℕ)
 partOf part.Bytes a = some (whole a)
 partOf part.Truncated a = some (take (a .truncated) (a .bytes))

@@ -4,6 +4,7 @@ ghost use Rattle.aid.specs.Category.{categoryOf, numberOf, category-is, 
 ghost use Rattle.aid.specs.declared.category.Category.the-variants.{International, National, Standard, Proprietary};
 use crate::Aid;
 
+// The category of an AID, by the high half of its first byte.
 pub enum Category {
     International,
     National,
@@ -40,6 +41,7 @@ fn number(k: Category) -> u8
 }
 
 impl Aid {
+    // The category of the first byte.
     pub fn category(self) -> Category
         ensures { λ r. ⌜ category-is self r ⌝ }
     {
@@ -54,6 +56,7 @@ impl Aid {
         number(self.category()) == number(k)
     }
 
+    // One test for each category but the last.
     pub fn is_international(self) -> bool
         ensures { λ r. ⌜ is-in-is International self r ⌝ }
     {

@@ -19,6 +19,7 @@ pub struct Aid {
     truncated: usize,
 }
 
+// Made, or refused with 6 to 10.
 pub enum Answer {
     Made,
     Refused(u8),
@@ -70,6 +71,7 @@ fn test(aid: &[u8], truncated_len: usize) -> Answer
 }
 
 impl Aid {
+    // The AID of a name that is not to be truncated.
     pub fn try_new(aid: &[u8]) -> TryNew
         ensures { λ r. ⌜ try-new-is (now (aid .entry)) r ⌝ }
     {
@@ -77,6 +79,7 @@ impl Aid {
         Aid::try_new_truncatable(aid, n)
     }
 
+    // The AID of a name that may be truncated to a length.
     pub fn try_new_truncatable(aid: &[u8], truncated_len: usize) -> TryNew
         ensures { λ r. ⌜ try-new-truncatable-is (now (aid .entry)) «truncated_len» r ⌝ }
     {

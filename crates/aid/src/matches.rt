@@ -4,6 +4,7 @@ use crate::Aid;
 use crate::part::up_to_16;
 
 impl Aid {
+    // Whether a name selects it: a prefix of its bytes, at least as long as the truncated length.
     pub fn matches(self, aid: &[u8]) -> bool
         ensures { λ r. ⌜ matches-is self (now (aid .entry)) r ⌝ }
     {

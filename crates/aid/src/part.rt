@@ -5,6 +5,7 @@ ghost use Rattle.aid.specs.Part.{hasRid, Spans, part-len-is, copy-part-i
 use crate::Aid;
 use crate::Category;
 
+// The parts of an AID: all its bytes, the truncated ones, the registered provider (RID), and what follows it (PIX).
 pub enum Part {
     Bytes,
     Truncated,
@@ -18,7 +19,7 @@ pub enum Length {
     None,
 }
 
-// How many bytes were copied, or that there is no such part.
+// How many bytes were copied; that there is no such part; 16 where it is longer than the buffer.
 pub enum Copied {
     Bytes(usize),
     None,
@@ -77,6 +78,7 @@ fn span_of(aid: Aid, part: Part) -> Span
 }
 
 impl Aid {
+    // How many bytes a part has.
     pub fn part_len(self, part: Part) -> Length
         ensures { λ r. ⌜ part-len-is part self r ⌝ }
     {

@@ -12,6 +12,6 @@ use Rattle.splitter.specs.Step.{roomIn, roomOf, stepOf}
 use Rattle.splitter.specs.Pieces.{partsIn, parts}
 use Rattle.cases.specs.Table.{Edges}
 
-pub edges : Edges
+pub cases-hold : Edges
 unfolding furtherOf channelOf rangeOf categoryOf underFive tested tryNew among sizeByCrate sizeByStandard sizeBy thirdByCrate thirdBy threeBytes longTag tagOf lenTo82 shortBody longBody extendedBody extendedByStandard bodyOf leShown wide lcSize leSize lcLen leLen roomIn roomOf stepOf partsIn parts
-edges = (refl, (refl, (refl, (refl, (refl, (refl, (refl, (refl, (refl, (refl, (refl, (refl, (refl, (refl, (refl, (refl, (refl, (refl, (refl, (refl, (refl, (refl, tt))))))))))))))))))))))
+cases-hold = (refl, (refl, (refl, (refl, (refl, (refl, (refl, (refl, (refl, (refl, (refl, (refl, (refl, (refl, (refl, (refl, (refl, (refl, (refl, (refl, (refl, (refl, tt))))))))))))))))))))))

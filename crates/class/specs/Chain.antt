@@ -14,8 +14,9 @@ bit c = c / 16 % 2
 abbrev pub chained : ℕ → ℕ
 chained c = c + 16 * (1 - bit c)
 
-unfoldable pub chainOf : ℕ → Chain
-chainOf c = cond (eqb (bit c) 1) NotTheLast LastOrOnly
+-- not the last of a chain where the bit is set
+unfoldable pub chainingOf : ℕ → Chain
+chainingOf c = cond (eqb (bit c) 1) NotTheLast LastOrOnly
 
 -- the chain by number, in the order of the Rust's enum
 abbrev pub chainNumber : Chain → ℕ
@@ -23,6 +24,7 @@ chainNumber LastOrOnly = 0
 chainNumber NotTheLast = 1
 chainNumber Unknown = 2
 
+-- the two tests of a chain
 abbrev pub lastOrOnly : Chain → Bool
 lastOrOnly LastOrOnly = true
 lastOrOnly NotTheLast = false
@@ -35,7 +37,7 @@ notTheLast Unknown = false
 
 -- the promises of `chain`, `as_chained`, `last_or_only` and `not_the_last`
 abbrev pub chain-is : Class → Chain → Type 0
-chain-is c r = r ≡ chainOf (c .cla)
+chain-is c r = r ≡ chainingOf (c .cla)
 
 abbrev pub as-chained-is : Class → Class → Type 0
 as-chained-is c r = r ≡ record { cla = chained (c .cla) }

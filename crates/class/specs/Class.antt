@@ -8,9 +8,11 @@ use Rattle.class.specs.declared.Class.{Class}
 use Rattle.class.specs.declared.FromByte.{FromByte}
 use Rattle.class.specs.declared.FromByte.the-variants as from-byte
 
+-- the class of a byte: 3 for FF
 unfoldable pub fromByte : ℕ → Reply Class
 fromByte c = cond (eqb c 0xFF) (no 3) (is (record { cla = c }))
 
+-- an answer as a reply
 abbrev pub said : FromByte → Reply Class
 said (from-byte.Class c) = is c
 said (from-byte.Refused k) = no k

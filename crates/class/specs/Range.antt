@@ -33,6 +33,7 @@ byRange (range.Interindustry Further) a b o = b
 byRange (range.Interindustry Reserved) a b o = o
 byRange range.Proprietary a b o = o
 
+-- the range of a class byte: 3 for FF
 unfoldable pub fromCla : ℕ → Reply Range
 fromCla c = then (fromByte c) (λ x. is (rangeOf (x .cla)))
 

@@ -21,6 +21,7 @@ unfoldable pub furtherOf : Reading → ℕ → SecureMessaging
 furtherOf reading.Crate c = Standard
 furtherOf reading.Standard c = cond (eqb (c / 32 % 2) 0) None Standard
 
+-- by the range; a reserved or proprietary class says nothing
 unfoldable pub secureMessagingOf : Reading → ℕ → SecureMessaging
 secureMessagingOf r c = byRange (rangeOf c) (firstOf c) (furtherOf r c) Unknown
 
@@ -32,6 +33,7 @@ indicationNumber Standard = 2
 indicationNumber Authenticated = 3
 indicationNumber Unknown = 4
 
+-- whether there is none
 abbrev pub isNone : SecureMessaging → Bool
 isNone None = true
 isNone Proprietary = false

@@ -2,6 +2,7 @@
 ghost use Rattle.class.specs.Chain.{chain-is, as-chained-is, last-or-only-is, not-the-last-is};
 use crate::Class;
 
+// What bit 0x10 says of a command; no operation gives `Unknown`.
 pub enum Chain {
     LastOrOnly,
     NotTheLast,
@@ -9,6 +10,7 @@ pub enum Chain {
 }
 
 impl Chain {
+    // Whether it is the last or only command.
     pub fn last_or_only(self) -> bool
         ensures { λ r. ⌜ last-or-only-is self r ⌝ }
     {
@@ -19,6 +21,7 @@ impl Chain {
         }
     }
 
+    // Whether others follow.
     pub fn not_the_last(self) -> bool
         ensures { λ r. ⌜ not-the-last-is self r ⌝ }
     {
@@ -31,6 +34,7 @@ impl Chain {
 }
 
 impl Class {
+    // What bit 0x10 of the byte says.
     pub fn chain(self) -> Chain
         ensures { λ r. ⌜ chain-is self r ⌝ }
     {
@@ -41,6 +45,7 @@ impl Class {
         }
     }
 
+    // The class with bit 0x10 set; of 0xEF that is 0xFF, which is no class.
     pub fn as_chained(self) -> Class
         ensures { λ r. ⌜ as-chained-is self r ⌝ }
     {

@@ -6,6 +6,7 @@ use crate::Interindustry;
 use crate::Range;
 use crate::Reading;
 
+// A logical channel; a reserved or proprietary class has none.
 pub enum Channel {
     Number(u8),
     None,
@@ -22,6 +23,7 @@ fn further(reading: Reading, cla: u8) -> u8
 }
 
 impl Class {
+    // The channel, in the crate's or the standard reading.
     pub fn channel(self, reading: Reading) -> Channel
         ensures { λ r. ⌜ channel-is reading self r ⌝ }
     {

@@ -24,11 +24,13 @@ pub enum Reading {
     Standard,
 }
 
+// The class of a byte; 0xFF is none (3).
 pub enum FromByte {
     Class(Class),
     Refused(u8),
 }
 
+// The Rust's constants: interindustry; proprietary without secure messaging, and with it.
 pub const ZERO_CLA: Class = Class { cla: 0x00 };
 
 pub const NO_SM_CLA: Class = Class { cla: 0x80 };
@@ -36,6 +38,7 @@ pub const NO_SM_CLA: Class = Class { cla: 0x80 };
 pub const SM_CLA: Class = Class { cla: 0x84 };
 
 impl Class {
+    // The class of a byte: 3 for 0xFF.
     pub fn from_byte(cla: u8) -> FromByte
         ensures { λ r. ⌜ from-byte-is cla r ⌝ }
     {
@@ -45,6 +48,7 @@ impl Class {
         FromByte::Class(Class { cla })
     }
 
+    // Its byte.
     pub fn into_inner(self) -> u8
         ensures { λ r. ⌜ into-inner-is self r ⌝ }
     {

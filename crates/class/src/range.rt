@@ -3,23 +3,27 @@ ghost use Rattle.class.specs.Range.{range-is, from-cla-is};
 use crate::Class;
 use crate::FromByte;
 
+// The range of a class.
 pub enum Range {
     Interindustry(Interindustry),
     Proprietary,
 }
 
+// The ranges of interindustry classes.
 pub enum Interindustry {
     First,
     Further,
     Reserved,
 }
 
+// The range of a class byte; 0xFF has none (3).
 pub enum FromCla {
     Range(Range),
     Refused(u8),
 }
 
 impl Range {
+    // The range of a class byte: 3 for 0xFF.
     pub fn from_cla(cla: u8) -> FromCla
         ensures { λ r. ⌜ from-cla-is cla r ⌝ }
     {
@@ -31,6 +35,7 @@ impl Range {
 }
 
 impl Class {
+    // The range in which the byte lies.
     pub fn range(self) -> Range
         ensures { λ r. ⌜ range-is self r ⌝ }
     {

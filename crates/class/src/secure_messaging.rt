@@ -6,6 +6,7 @@ use crate::Interindustry;
 use crate::Range;
 use crate::Reading;
 
+// The indication; `Unknown` of a reserved or proprietary class.
 pub enum SecureMessaging {
     None,
     Proprietary,
@@ -15,6 +16,7 @@ pub enum SecureMessaging {
 }
 
 impl SecureMessaging {
+    // Whether it says that there is none.
     pub fn none(self) -> bool
         ensures { λ r. ⌜ none-is self r ⌝ }
     {
@@ -58,6 +60,7 @@ fn further(reading: Reading, cla: u8) -> SecureMessaging
 }
 
 impl Class {
+    // The indication, in the crate's or the standard reading.
     pub fn secure_messaging(self, reading: Reading) -> SecureMessaging
         ensures { λ r. ⌜ secure-messaging-is reading self r ⌝ }
     {

@@ -13,6 +13,7 @@ pub struct ParsedLengths {
     pub extended: bool,
 }
 
+// The lengths of a body, or the refusal: 4, 5, and 21 in the standard reading.
 pub enum Lengths {
     Are(ParsedLengths),
     Refused(u8),

@@ -29,6 +29,7 @@ pub struct CommandView {
     pub extended: bool,
 }
 
+// A command that was read, or the refusal: 1, 3, 4, 5, and 21 in the standard reading.
 pub enum Parsed {
     View(CommandView),
     Refused(u8),
@@ -55,6 +56,7 @@ fn parse_body(reading: Reading, apdu: &[u8], class: Class) -> Parsed
 }
 
 impl CommandView {
+    // Reads a command.
     pub fn try_from(reading: Reading, apdu: &[u8]) -> Parsed
         ensures { λ r. ⌜ try-from-is reading (now (apdu .entry)) r ⌝ }
     {

@@ -6,6 +6,7 @@ use crate::Parsed;
 use class::Class;
 use class::Reading;
 
+// An owned command: its numbers, and how many bytes of data stand at the beginning of its room.
 pub struct Command {
     pub class: Class,
     pub instruction: u8,
@@ -16,11 +17,13 @@ pub struct Command {
     pub extended: bool,
 }
 
+// A copy, or the refusal: those of reading, and 2 where the data are longer than the room.
 pub enum Owned {
     Command(Command),
     Refused(u8),
 }
 
+// Extended, or 18 where held and new data exceed the room.
 pub enum Extending {
     Done,
     Refused(u8),

@@ -76,8 +76,8 @@ fn read(name: &[u8], apdu: &[u8], says: Says) {
     read_in(Reading::Standard, apdu, says);
 }
 
-// ISO/IEC 7816-3 12.1.3: a command of each case.
-fn cases() {
+// ISO/IEC 7816-3 12.1.3: a command of each case, with short lengths, and with extended ones.
+fn short_cases() {
     read(b"case 1", &[0x00, 0x44, 0x00, 0x00], short(0, 0));
     read(b"case 2S", &[0x00, 0xB0, 0x00, 0x00, 0x10], short(0, 16));
     read(
@@ -95,6 +95,9 @@ fn cases() {
         &[0x00, 0x88, 0x00, 0x00, 0x02, 0xAA, 0xBB, 0x08],
         short(2, 8),
     );
+}
+
+fn extended_cases() {
     read(
         b"case 2E",
         &[0x00, 0xB0, 0x00, 0x00, 0x00, 0x01, 0x00],
@@ -178,7 +181,8 @@ fn travel() {
 }
 
 pub(crate) fn run() {
-    cases();
+    short_cases();
+    extended_cases();
     payment();
     travel();
 }

@@ -163,36 +163,41 @@ fn pieces_of(pieces: usize, first: usize, last: usize, total: usize, longest: us
     }
 }
 
-pub(crate) fn run() {
-    let mut buffer = [0u8; 261];
+// In pieces of the default length.
+fn usual(buffer: &mut [u8; 261]) {
     cuts(
         &[0xA5u8; 255],
         256,
         261,
-        &mut buffer,
+        buffer,
         pieces_of(1, 255, 255, 255, 261),
     );
     cuts(
         &[0xA5u8; 256],
         0,
         261,
-        &mut buffer,
+        buffer,
         pieces_of(2, 254, 2, 256, 259),
     );
     cuts(
         &[0xA5u8; 256],
         5,
         261,
-        &mut buffer,
+        buffer,
         pieces_of(2, 252, 4, 256, 257),
     );
     cuts(
         &[0xA5u8; 600],
         256,
         261,
-        &mut buffer,
+        buffer,
         pieces_of(3, 252, 96, 600, 257),
     );
+}
+
+pub(crate) fn run() {
+    let mut buffer = [0u8; 261];
+    usual(&mut buffer);
     cuts(&[0xA5u8; 5], 1, 10, &mut buffer, pieces_of(2, 4, 1, 5, 9));
     cuts(
         &[0xA5u8; 300],

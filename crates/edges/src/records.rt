@@ -5,7 +5,7 @@ use tlv::Reading;
 use tlv::get_data_object;
 use tlv::value;
 
-// A lookup that finds these bytes, in both readings.
+// A lookup that finds these bytes.
 fn finds_in(reading: Reading, record: &[u8], path: &[u32], expected: &[u8]) {
     let found = value(reading, record, path);
     report::bytes(b" expected ", expected);
@@ -13,6 +13,7 @@ fn finds_in(reading: Reading, record: &[u8], path: &[u32], expected: &[u8]) {
     report::verdict(check::same(expected, found));
 }
 
+// The same in both readings.
 fn finds(name: &[u8], record: &[u8], path: &[u32], expected: &[u8]) {
     io::write_all(1, name);
     io::write_all(1, b", crate:");
@@ -31,17 +32,27 @@ fn refusal(reading: Reading, record: &[u8], path: &[u32]) -> usize {
     }
 }
 
+// Prints a refusal, or that there is none.
+fn reply(label: &[u8], refusal: usize) {
+    io::write_all(1, label);
+    if refusal == 0 {
+        io::write_all(1, b"accepted");
+        return;
+    }
+    report::number(b"refusal ", refusal);
+}
+
 // A lookup that is refused, in each reading with a number of its own; 0 where it is not.
 fn refused(name: &[u8], record: &[u8], path: &[u32], by_crate: usize, by_standard: usize) {
     let found = refusal(Reading::Crate, record, path);
     io::write_all(1, name);
-    report::number(b", crate: expected refusal ", by_crate);
-    report::number(b", found ", found);
+    reply(b", crate: expected ", by_crate);
+    reply(b", found ", found);
     report::verdict(by_crate == found);
     let found = refusal(Reading::Standard, record, path);
     io::write_all(1, name);
-    report::number(b", standard: expected refusal ", by_standard);
-    report::number(b", found ", found);
+    reply(b", standard: expected ", by_standard);
+    reply(b", found ", found);
     report::verdict(by_standard == found);
 }
 

@@ -22,6 +22,7 @@ use Rattle.tell.specs.Answers.{flagOf, orNone, fitting, outAfter}
 unfoldable pub partNumbered : ℕ → Part
 partNumbered n = cond (eqb n 0) part.Bytes (cond (eqb n 1) part.Truncated (cond (eqb n 2) part.Rid part.Pix))
 
+-- the length of a part, 256 where it is absent
 abbrev pub sizeOf : Part → Aid → ℕ
 sizeOf p a = orNone (lengthOf (partOf p a))
 
@@ -50,6 +51,7 @@ ofAid name t = then (tryNew name t) (λ a. is (numbersOf a))
 unfoldable pub ofWhole : List ℕ → Reply (List ℕ)
 ofWhole name = ofAid name (length name)
 
+-- what `gorvisclen_aid_matches` tells: 1 where the name asked for selects the AID
 unfoldable pub ofMatch : List ℕ → ℕ → List ℕ → Reply (List ℕ)
 ofMatch name t asked = then (tryNew name t) (λ a. is (flagOf (matchesOf a asked) ∷ []))
 

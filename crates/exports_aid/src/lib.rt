@@ -82,6 +82,7 @@ fn tell_made(made: TryNew, out: &mut [u64]) -> u8
     }
 }
 
+// Tells 9 numbers: length; truncated length; category and the tests for the first four; lengths of RID and PIX, 256 for none.
 #[no_mangle]
 pub extern "C" fn gorvisclen_aid(name: &[u8], truncated_len: usize, out: &mut [u64]) -> u8
     ensures { λ r. ⌜ Answers 9 (ofAid (now (name .entry)) «truncated_len») (now (out .entry)) r (now (out .exit)) ⌝ }
@@ -89,6 +90,7 @@ pub extern "C" fn gorvisclen_aid(name: &[u8], truncated_len: usize, out: &mut [u
     tell_made(Aid::try_new_truncatable(name, truncated_len), out)
 }
 
+// Tells the same 9 numbers of an AID that is not to be truncated.
 #[no_mangle]
 pub extern "C" fn gorvisclen_aid_whole(name: &[u8], out: &mut [u64]) -> u8
     ensures { λ r. ⌜ Answers 9 (ofWhole (now (name .entry))) (now (out .entry)) r (now (out .exit)) ⌝ }
@@ -96,6 +98,7 @@ pub extern "C" fn gorvisclen_aid_whole(name: &[u8], out: &mut [u64]) -> u8
     tell_made(Aid::try_new(name), out)
 }
 
+// Tells one number: 1 where the name asked for selects the AID.
 #[no_mangle]
 pub extern "C" fn gorvisclen_aid_matches(
     name: &[u8],
@@ -136,6 +139,7 @@ fn copy(aid: Aid, part: Part, to: &mut [u8], out: &mut [u64]) -> u8
     }
 }
 
+// Copies a part to the front of `to`, and tells its length, 256 where it is absent.
 #[no_mangle]
 pub extern "C" fn gorvisclen_aid_part(
     name: &[u8],

@@ -84,6 +84,7 @@ fn tell_required(built: Built, data: &[u8], out: &mut [u64]) -> u8
     }
 }
 
+// Tells one number: the length of the command.
 #[no_mangle]
 pub extern "C" fn gorvisclen_required_len(
     class: u8,
@@ -102,6 +103,7 @@ pub extern "C" fn gorvisclen_required_len(
     tell_required(built, data, out)
 }
 
+// Tells the same with extended lengths forced.
 #[no_mangle]
 pub extern "C" fn gorvisclen_force_extended(
     class: u8,
@@ -165,6 +167,7 @@ fn tell_equal(answer: Comparison, out: &mut [u64]) -> u8
     }
 }
 
+// Tells one number: 1 where the command to build equals the command read.
 #[no_mangle]
 pub extern "C" fn gorvisclen_builder_eq(
     class: u8,

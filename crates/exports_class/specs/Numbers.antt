@@ -6,7 +6,7 @@ use Rattle.basis.specs.Reply.{Reply, is, then}
 use Rattle.class.specs.Class.{fromByte}
 use Rattle.class.specs.Range.{rangeOf, rangeNumber, fromCla}
 use Rattle.class.specs.SecureMessaging.{secureMessagingOf, indicationNumber, isNone}
-use Rattle.class.specs.Chain.{chained, chainOf, chainNumber, lastOrOnly, notTheLast}
+use Rattle.class.specs.Chain.{chained, chainingOf, chainNumber, lastOrOnly, notTheLast}
 use Rattle.class.specs.Channel.{channelOf}
 use Rattle.class.specs.declared.Reading.the-variants as reading
 use Rattle.class.specs.declared.range.Range.{Range}
@@ -30,11 +30,13 @@ toldOf c x m n k a b =
     ∷ orNone b
     ∷ []
 
+-- the eleven numbers of a class byte
 unfoldable pub numbersOf : ℕ → List ℕ
 numbersOf c =
-    toldOf c (rangeOf c) (secureMessagingOf reading.Crate c) (secureMessagingOf reading.Standard c) (chainOf c)
+    toldOf c (rangeOf c) (secureMessagingOf reading.Crate c) (secureMessagingOf reading.Standard c) (chainingOf c)
     (channelOf reading.Crate c) (channelOf reading.Standard c)
 
+-- what `gorvisclen_class`, `gorvisclen_class_as_chained` and `gorvisclen_range` tell of a byte
 unfoldable pub ofClass : ℕ → Reply (List ℕ)
 ofClass c = then (fromByte c) (λ x. is (numbersOf (x .cla)))
 

@@ -112,6 +112,8 @@ fn told(
     ]
 }
 
+// Tells 11 numbers: the byte; its range; secure messaging in the crate's reading and in the standard's; whether the one and the other is
+// none; the chain and its two tests; the channel in the one reading and in the other, 256 for none.
 #[no_mangle]
 pub extern "C" fn gorvisclen_class(cla: u8, out: &mut [u64]) -> u8
     ensures { λ r. ⌜ Answers 11 (ofClass cla) (now (out .entry)) r (now (out .exit)) ⌝ }
@@ -125,6 +127,7 @@ pub extern "C" fn gorvisclen_class(cla: u8, out: &mut [u64]) -> u8
     }
 }
 
+// Tells the same 11 numbers of the class with its chaining bit set.
 #[no_mangle]
 pub extern "C" fn gorvisclen_class_as_chained(cla: u8, out: &mut [u64]) -> u8
     ensures { λ r. ⌜ Answers 11 (ofChained cla) (now (out .entry)) r (now (out .exit)) ⌝ }
@@ -138,6 +141,7 @@ pub extern "C" fn gorvisclen_class_as_chained(cla: u8, out: &mut [u64]) -> u8
     }
 }
 
+// Tells one number: the range of the byte.
 #[no_mangle]
 pub extern "C" fn gorvisclen_range(cla: u8, out: &mut [u64]) -> u8
     ensures { λ r. ⌜ Answers 1 (ofRange cla) (now (out .entry)) r (now (out .exit)) ⌝ }
@@ -151,6 +155,7 @@ pub extern "C" fn gorvisclen_range(cla: u8, out: &mut [u64]) -> u8
     }
 }
 
+// Tells the bytes of the three constants.
 #[no_mangle]
 pub extern "C" fn gorvisclen_class_constants(out: &mut [u64]) -> u8
     ensures { λ r. ⌜ Answers 3 constants (now (out .entry)) r (now (out .exit)) ⌝ }

@@ -20,6 +20,7 @@ unfoldable pub viewNumbers : CommandView → List ℕ
 viewNumbers v =
     v .class .cla ∷ v .instruction ∷ v .p1 ∷ v .p2 ∷ v .at ∷ v .len ∷ v .le ∷ flagOf (v .extended) ∷ []
 
+-- what `gorvisclen_command` tells, in the reading with number n
 unfoldable pub ofCommand : ℕ → List ℕ → Reply (List ℕ)
 ofCommand n s = then (parse (readingNumbered n) s) (λ v. is (viewNumbers v))
 

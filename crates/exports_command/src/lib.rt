@@ -35,6 +35,7 @@ fn view_numbers(view: CommandView) -> [u64; 8]
     ]
 }
 
+// Tells 8 numbers: class, instruction, P1, P2, place and length of the data, expected length, extended.
 #[no_mangle]
 pub extern "C" fn gorvisclen_command(reading: u8, apdu: &[u8], out: &mut [u64]) -> u8
     ensures { λ r. ⌜ Answers 8 (ofCommand reading (now (apdu .entry))) (now (out .entry)) r (now (out .exit)) ⌝ }

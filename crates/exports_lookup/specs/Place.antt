@@ -9,5 +9,6 @@ use Rattle.exports_tlv.specs.Numbers.{readingNumbered}
 abbrev pub toldPlace : Reply Span → Reply (List ℕ)
 toldPlace x = then x (λ p. is (p .at ∷ p .len ∷ []))
 
+-- what `gorvisclen_get_data_object` tells, in the reading with number n
 unfoldable pub ofLookup : ℕ → List ℕ → List ℕ → Reply (List ℕ)
 ofLookup n s path = toldPlace (lookup (readingNumbered n) s path)

@@ -1,6 +1,6 @@
 // What a host program calls to look a path up: the place and the length of the value. The function replies 0, or the number of a
 // refusal of document 01.
-ghost use Rattle.tell.specs.Answers.{Answers, Numbered};
+ghost use Rattle.tell.specs.Answers.{Answers, NumbersOf};
 ghost use Rattle.tlv.specs.Lookup.{said};
 ghost use Rattle.exports_lookup.specs.Place.{toldPlace, ofLookup};
 use exports_tlv::reading_numbered;
@@ -9,7 +9,7 @@ use tell::answer;
 use tlv::GetDataObject;
 
 fn place_numbers(found: GetDataObject) -> Numbers
-    ensures { λ r. ⌜ Numbered (toldPlace (said found)) r ⌝ }
+    ensures { λ r. ⌜ NumbersOf (toldPlace (said found)) r ⌝ }
 {
     match found {
         GetDataObject::End => Numbers(11, 0, 0, 0),
@@ -18,6 +18,7 @@ fn place_numbers(found: GetDataObject) -> Numbers
     }
 }
 
+// Tells 2 numbers: the place of the value in the record, and its length.
 #[no_mangle]
 pub extern "C" fn gorvisclen_get_data_object(
     reading: u8,

@@ -55,11 +55,12 @@ pub record Extends (n : ℕ) (v : CommandView) (d room out : List ℕ) (x : ℕ)
   pub bytes : room′ ≡ extendedRoom (extending n (length d) (length room)) n d room
   pub told : out′ ≡ over (commandNumbers (takenOf v (heldAfter (extending n (length d) (length room)) n) true)) out
 
--- the promise of `gorvisclen_command_extend`, for what the reading x of s gives: a refusal changes nothing
+-- by what the parser says, or a slice too short: a refusal of theirs changes nothing; 18 is that of `Extends`, and tells
 abbrev pub ExtendsBy : Reply CommandView → ℕ → List ℕ → List ℕ → List ℕ → ℕ → List ℕ → List ℕ → Type 0
 ExtendsBy (is v) n d room out x room′ out′ = Extends n v d room out x room′ out′
 ExtendsBy (no k) n d room out x room′ out′ = (x ≡ k) × (room′ ≡ room) × (out′ ≡ out)
 
+-- the promise of `gorvisclen_command_extend`
 abbrev pub Extended : ℕ → List ℕ → List ℕ → List ℕ → ℕ → List ℕ → List ℕ → Type 0
 Extended n s room out x room′ out′ =
     ExtendsBy (fitting 7 (length out) (parse Crate s)) n (dataIn s (parse Crate s)) room out x room′ out′

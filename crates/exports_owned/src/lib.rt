@@ -52,6 +52,7 @@ pub fn of_length(len: usize) -> Command
     }
 }
 
+// Copies the data to the front of `to`, and tells their length.
 #[no_mangle]
 pub extern "C" fn gorvisclen_command_data(
     reading: u8,
@@ -83,6 +84,7 @@ fn short_owned(reading: Reading, apdu: &[u8], room: usize) -> u8
     }
 }
 
+// Copies the data to the front of the room, and tells the 7 numbers of the command.
 #[no_mangle]
 pub extern "C" fn gorvisclen_command_owned(
     reading: u8,
@@ -128,6 +130,7 @@ fn extend(len: usize, room: &mut [u8], view: CommandView, part: &[u8], out: &mut
     extending_number(answer)
 }
 
+// Joins the data of a command behind the held ones, and tells the 7 numbers of the extended command, also with 18.
 #[no_mangle]
 pub extern "C" fn gorvisclen_command_extend(
     len: usize,

@@ -112,6 +112,7 @@ fn usable(room: usize, given: usize) -> usize
     if given < 14 { 0 } else { room }
 }
 
+// Joins a piece, and tells 14 numbers: 1 and the 7 of the command, or zeros for "more"; then the six of the record behind it.
 #[no_mangle]
 pub extern "C" fn gorvisclen_join(
     opened: u8,
@@ -152,6 +153,7 @@ fn closed(record: Numbered) -> Reassembler
     }
 }
 
+// Tells the six numbers of a closed record, whatever the record was.
 #[no_mangle]
 pub extern "C" fn gorvisclen_reset(
     opened: u8,
@@ -169,6 +171,7 @@ pub extern "C" fn gorvisclen_reset(
     tell(&numbers, out)
 }
 
+// Copies the joined data from the front of the room to the front of `to`, and tells their length.
 #[no_mangle]
 pub extern "C" fn gorvisclen_joined_data(
     len: usize,

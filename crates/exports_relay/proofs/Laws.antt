@@ -10,7 +10,7 @@ use Rattle.splitter.specs.declared.pieces.Pieces.{Pieces}
 use Rattle.tell.specs.Answers.{outAfter, refuse-is, Answers}
 use Rattle.tell.proofs.Answers.{said as told-no, told-done, told-all}
 use Rattle.exports_owned.specs.Copies.{commandNumbers}
-use Rattle.exports_relay.specs.Relay.{startOf, runIn, stateNumbers, Ends, Relayed}
+use Rattle.exports_relay.specs.Relay.{runFrom, runIn, stateNumbers, Ends, Relayed}
 use Rattle.exports_relay.specs.declared.State.{State}
 use Rattle.exports_relay.specs.declared.End.{End}
 
@@ -28,10 +28,10 @@ module _ (x : Reply Pieces) (d buffer room out : List ℕ) where
     no-numbers h = rw (e, lt-ltb (length out) 10 h) (record { reply = refl; buffered = refl; roomed = refl; told = refl })
 
     pub ran : 10 ≤ length out → (z : End) (b m v : List ℕ) (w : ℕ) (out′ : List ℕ)
-        → Ends (runIn (length d + 1) (startOf c) d buffer room) z b m → v ≡ stateNumbers (z .ended) (z .state)
+        → Ends (runIn (length d + 1) (runFrom c) d buffer room) z b m → v ≡ stateNumbers (z .ended) (z .state)
         → Answers (length v) (is v) out w out′ → Relayed x d buffer room out w b m out′
     ran h z b m v w out′ g s a =
-        let o = runIn (length d + 1) (startOf c) d buffer room in
+        let o = runIn (length d + 1) (runFrom c) d buffer room in
         let n : length v ≤ length out = omega (arith, ap length s, ten (z .ended) (z .state), h) in
         rw (e, le-ltb (length out) 10 h)
         (record {

@@ -2,11 +2,10 @@
 use Prim.Native.Nat.{ℕ}
 use mathlib.Core.Path.{_≡_, _∙⁻¹_}
 use mathlib.Core.List.{List}
-use Rattle.basis.specs.Reply.{Reply}
-use Rattle.splitter.specs.declared.pieces.Pieces.{Pieces}
-use Rattle.exports_relay.specs.Relay.{Relayed}
+use Rattle.exports_relay.specs.Relay.{cut-and-join-is}
 
-pub gorvisclen-cut-and-join : (x : Reply Pieces) (d buffer room out : List ℕ) (r q : ℕ) (a b m n o p : List ℕ)
-    → Relayed x d buffer room out r a m o → Relayed x d buffer room out q b n p → (r ≡ q) × (a ≡ b) × (m ≡ n) × (o ≡ p)
-gorvisclen-cut-and-join x d buffer room out r q a b m n o p h g =
+pub gorvisclen-cut-and-join : (c i p q e m : ℕ) (d buffer room out : List ℕ) (r s : ℕ) (a b u v x y : List ℕ)
+    → cut-and-join-is c i p q e d m buffer room out r a u x → cut-and-join-is c i p q e d m buffer room out s b v y
+    → (r ≡ s) × (a ≡ b) × (u ≡ v) × (x ≡ y)
+gorvisclen-cut-and-join c i p q e m d buffer room out r s a b u v x y h g =
     (h .reply ∙⁻¹ g .reply, h .buffered ∙⁻¹ g .buffered, h .roomed ∙⁻¹ g .roomed, h .told ∙⁻¹ g .told)

@@ -8,7 +8,7 @@ use mathlib.Core.Option.{Option, none, some}
 use lib.ListN.{length, take}
 use Rattle.basis.specs.Reply.{Reply, is, no, then, status}
 use Rattle.command.specs.declared.owned.Command.{Command}
-use Rattle.splitter.specs.Pieces.{nextOf, writeOf, pieceIn, bufferAfter}
+use Rattle.splitter.specs.Pieces.{chainOf, nextOf, writeOf, pieceIn, bufferAfter}
 use Rattle.splitter.specs.declared.pieces.Pieces.{Pieces}
 use Rattle.splitter.specs.declared.pieces.Written.{Written}
 use Rattle.reassembler.specs.Join.{Outcome, joinOf}
@@ -22,8 +22,8 @@ use Rattle.exports_relay.specs.declared.Turn.the-variants as turn
 use Rattle.exports_relay.specs.declared.End.{End}
 
 -- a run that starts: all of the chain is left, no chain is open, and zeros stand for the command that was not given back yet
-abbrev pub startOf : Pieces → State
-startOf c = record { chain = c; chained = Closed; pieces = 0; more = 0; last = ofLength 0 }
+abbrev pub runFrom : Pieces → State
+runFrom c = record { chain = c; chained = Closed; pieces = 0; more = 0; last = ofLength 0 }
 
 -- the run after a piece: the reply was "more", or the command
 abbrev pub afterMore : State → Pieces → Reassembler → State
@@ -83,16 +83,16 @@ runIn (suc n) x d buffer room =
 
 -- a whole run: a command has no more pieces than its data have bytes, and one
 abbrev pub endedOf : Reply Pieces → List ℕ → List ℕ → List ℕ → Reply Ended
-endedOf x d buffer room = then x (λ c. is (runIn (length d + 1) (startOf c) d buffer room))
+endedOf x d buffer room = then x (λ c. is (runIn (length d + 1) (runFrom c) d buffer room))
 
 -- buffer and room at exit: a refusal changes neither
-abbrev pub bufferOf : Reply Ended → List ℕ → List ℕ
-bufferOf (is e) buffer = e .buffer
-bufferOf (no k) buffer = buffer
+abbrev pub bufferAtExit : Reply Ended → List ℕ → List ℕ
+bufferAtExit (is e) buffer = e .buffer
+bufferAtExit (no k) buffer = buffer
 
-abbrev pub roomOf : Reply Ended → List ℕ → List ℕ
-roomOf (is e) room = e .room
-roomOf (no k) room = room
+abbrev pub roomAtExit : Reply Ended → List ℕ → List ℕ
+roomAtExit (is e) room = e .room
+roomAtExit (no k) room = room
 
 -- the refusal k that ended the run early, or 0; how many pieces were joined and how many replies were "more"; the command given back last
 unfoldable pub stateNumbers : ℕ → State → List ℕ
@@ -118,11 +118,15 @@ pub record Ends (e : Ended) (x : End) (buffer room : List ℕ) : Type 0 where
 -- the end told, or a refusal, which changes nothing
 pub record Tells (x : Reply Ended) (buffer room out : List ℕ) (r : ℕ) (buffer′ room′ out′ : List ℕ) : Type 0 where
   pub reply : r ≡ status x
-  pub buffered : buffer′ ≡ bufferOf x buffer
-  pub roomed : room′ ≡ roomOf x room
+  pub buffered : buffer′ ≡ bufferAtExit x buffer
+  pub roomed : room′ ≡ roomAtExit x room
   pub told : out′ ≡ outAfter (then x (λ e. is (stateNumbers (e .ended) (e .state)))) out
 
--- the promise of `gorvisclen_cut_and_join`, for the chain x: the slice for ten numbers is tested when the chain is made
+-- a run of the chain x: the slice for ten numbers is tested when the chain is made
 abbrev pub Relayed : Reply Pieces → List ℕ → List ℕ → List ℕ → List ℕ → ℕ → List ℕ → List ℕ → List ℕ → Type 0
 Relayed x d buffer room out r buffer′ room′ out′ =
     Tells (endedOf (fitting 10 (length out) x) d buffer room) buffer room out r buffer′ room′ out′
+
+-- the promise of `gorvisclen_cut_and_join`, by header, expected length, data and the most bytes of a piece
+abbrev pub cut-and-join-is : ℕ → ℕ → ℕ → ℕ → ℕ → List ℕ → ℕ → List ℕ → List ℕ → List ℕ → ℕ → List ℕ → List ℕ → List ℕ → Type 0
+cut-and-join-is c i p q e d m = Relayed (chainOf c i p q (length d) e m) d

@@ -4,8 +4,7 @@
 ghost use mathlib.Core.Path.{_≡_};
 ghost use Prim.Native.Nat.{_+_, _≤_, _<_};
 ghost use lib.ListN.{length};
-ghost use Rattle.splitter.specs.Pieces.{chainOf};
-ghost use Rattle.exports_relay.specs.Relay.{startOf, afterMore, afterCommand, stateNumbers, Relayed};
+ghost use Rattle.exports_relay.specs.Relay.{runFrom, afterMore, afterCommand, stateNumbers, cut-and-join-is};
 ghost use Rattle.exports_relay.specs.Relay.{joinedIn, turnOf, runIn, Turns, Ends};
 use command::Command;
 use exports_owned::command_numbers;
@@ -44,7 +43,7 @@ struct End {
 
 // A run that starts: no chain is open, and no command was given back.
 fn start(chain: Pieces) -> State
-    ensures { λ r. ⌜ r ≡ startOf chain ⌝ }
+    ensures { λ r. ⌜ r ≡ runFrom chain ⌝ }
 {
     let chained = Reassembler::new();
     let last = of_length(0);
@@ -124,7 +123,7 @@ fn take_turn(state: State, data: &[u8], buffer: &mut [u8], room: &mut [u8]) -> T
 
 // A whole run: a command has no more pieces than its data have bytes, and one. A piece whose join was refused stands in the buffer.
 fn run(chain: Pieces, data: &[u8], buffer: &mut [u8], room: &mut [u8]) -> End
-    ensures { λ r. ⌜ Ends (runIn (length (now («data» .entry)) + 1) (startOf chain) (now («data» .entry)) (now (buffer .entry))
+    ensures { λ r. ⌜ Ends (runIn (length (now («data» .entry)) + 1) (runFrom chain) (now («data» .entry)) (now (buffer .entry))
         (now (room .entry))) r
         (now (buffer .exit)) (now (room .exit)) ⌝ }
 {
@@ -162,6 +161,8 @@ fn state_numbers(ended: u8, state: State) -> [u64; 10]
     ]
 }
 
+// Tells 10 numbers: the refusal that ended the run early, or 0; how many pieces were joined; how many replies were "more"; the 7 of the
+// command given back last.
 #[no_mangle]
 pub extern "C" fn gorvisclen_cut_and_join(
     class: u8,
@@ -175,7 +176,7 @@ pub extern "C" fn gorvisclen_cut_and_join(
     room: &mut [u8],
     out: &mut [u64],
 ) -> u8
-    ensures { λ r. ⌜ Relayed (chainOf class instruction p1 p2 (length (now («data» .entry))) le available) (now («data» .entry))
+    ensures { λ r. ⌜ cut-and-join-is class instruction p1 p2 le (now («data» .entry)) available
         (now (buffer .entry)) (now (room .entry)) (now (out .entry)) r (now (buffer .exit)) (now (room .exit)) (now (out .exit)) ⌝ }
 {
     match Pieces::new_non_extended(class, instruction, p1, p2, data, le, available) {

@@ -25,6 +25,7 @@ fn write(builder: CommandBuilder, data: &[u8], buffer: &mut [u8], at: usize, out
     }
 }
 
+// Writes the command from a place of the buffer, and tells how many bytes it takes.
 #[no_mangle]
 pub extern "C" fn gorvisclen_serialize_into(
     class: u8,

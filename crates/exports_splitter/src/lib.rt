@@ -59,6 +59,8 @@ fn tell_split(answer: ShouldSplit, out: &mut [u64]) -> u8
     }
 }
 
+// Tells 6 numbers: 1, the data bytes, class and expected length of the first part, and class and expected length of the rest; zeros where
+// the command is whole.
 #[no_mangle]
 pub extern "C" fn gorvisclen_should_split(
     class: u8,
@@ -83,6 +85,7 @@ pub extern "C" fn gorvisclen_should_split(
     }
 }
 
+// Whether a chain can be made of these numbers: 3, 13, 14, or 0.
 #[no_mangle]
 pub extern "C" fn gorvisclen_new_non_extended(
     class: u8,
@@ -180,6 +183,8 @@ fn tell_written(answer: WriteNext, out: &mut [u64]) -> u8
     }
 }
 
+// Writes the next piece, and tells 5 numbers: 1 and its bytes; then 1, place and expected length of the chain behind it; zeros for what is
+// not there.
 #[no_mangle]
 pub extern "C" fn gorvisclen_write_next(
     class: u8,

@@ -1,6 +1,6 @@
 // What a host program calls of a tag, a length, an object and a value found: numbers, and a copy of the value. Each function
 // replies 0, or the number of a refusal of document 01.
-ghost use Rattle.tell.specs.Answers.{Answers, Numbered};
+ghost use Rattle.tell.specs.Answers.{Answers, NumbersOf};
 ghost use Rattle.tlv.specs.Tag as tag;
 ghost use Rattle.tlv.specs.Len as len;
 ghost use Rattle.tlv.specs.Object as object;
@@ -25,7 +25,7 @@ pub fn reading_numbered(reading: u8) -> Reading
 }
 
 fn tag_numbers(taken: TakeTag) -> Numbers
-    ensures { λ r. ⌜ Numbered (toldTag (tag.said taken)) r ⌝ }
+    ensures { λ r. ⌜ NumbersOf (toldTag (tag.said taken)) r ⌝ }
 {
     match taken {
         TakeTag::End => Numbers(11, 0, 0, 0),
@@ -35,7 +35,7 @@ fn tag_numbers(taken: TakeTag) -> Numbers
 }
 
 fn len_numbers(taken: TakeLen) -> Numbers
-    ensures { λ r. ⌜ Numbered (toldLen (len.said taken)) r ⌝ }
+    ensures { λ r. ⌜ NumbersOf (toldLen (len.said taken)) r ⌝ }
 {
     match taken {
         TakeLen::Unreadable => Numbers(12, 0, 0, 0),
@@ -44,7 +44,7 @@ fn len_numbers(taken: TakeLen) -> Numbers
 }
 
 fn object_numbers(taken: TakeDataObject) -> Numbers
-    ensures { λ r. ⌜ Numbered (toldObject (object.said taken)) r ⌝ }
+    ensures { λ r. ⌜ NumbersOf (toldObject (object.said taken)) r ⌝ }
 {
     match taken {
         TakeDataObject::End => Numbers(11, 0, 0, 0),
@@ -53,6 +53,7 @@ fn object_numbers(taken: TakeDataObject) -> Numbers
     }
 }
 
+// Tells 2 numbers: the tag, and how many bytes it takes.
 #[no_mangle]
 pub extern "C" fn gorvisclen_take_tag(reading: u8, bytes: &[u8], out: &mut [u64]) -> u8
     ensures { λ r. ⌜ Answers 2 (ofTag reading (now (bytes .entry))) (now (out .entry)) r (now (out .exit)) ⌝ }
@@ -61,6 +62,7 @@ pub extern "C" fn gorvisclen_take_tag(reading: u8, bytes: &[u8], out: &mut [u64]
     answer(tag.0, &[tag.1, tag.2], out)
 }
 
+// Tells 2 numbers: the length, and how many bytes it takes.
 #[no_mangle]
 pub extern "C" fn gorvisclen_take_len(reading: u8, bytes: &[u8], out: &mut [u64]) -> u8
     ensures { λ r. ⌜ Answers 2 (ofLen reading (now (bytes .entry))) (now (out .entry)) r (now (out .exit)) ⌝ }
@@ -69,6 +71,7 @@ pub extern "C" fn gorvisclen_take_len(reading: u8, bytes: &[u8], out: &mut [u64]
     answer(len.0, &[len.1, len.2], out)
 }
 
+// Tells 3 numbers: the tag, the place of the value, and its length.
 #[no_mangle]
 pub extern "C" fn gorvisclen_take_data_object(reading: u8, bytes: &[u8], out: &mut [u64]) -> u8
     ensures { λ r. ⌜ Answers 3 (ofObject reading (now (bytes .entry))) (now (out .entry)) r (now (out .exit)) ⌝ }
@@ -77,6 +80,7 @@ pub extern "C" fn gorvisclen_take_data_object(reading: u8, bytes: &[u8], out: &m
     answer(object.0, &[object.1, object.2, object.3], out)
 }
 
+// Copies the value that a path leads to to the front of `to`, and tells its length.
 #[no_mangle]
 pub extern "C" fn gorvisclen_value(
     reading: u8,

@@ -4,6 +4,7 @@ ghost use Rattle.exports_write.specs.Objects.{ObjectWritten};
 use tlv_write::PutDataObject;
 use tlv_write::put_data_object;
 
+// Writes an object from a place of the buffer, and tells how many bytes it takes.
 #[no_mangle]
 pub extern "C" fn gorvisclen_put_data_object(
     b1: u8,

@@ -15,7 +15,7 @@ use Rattle.tlv.specs.Object.{Object, sizeOf, objectOf}
 use Rattle.tlv.specs.declared.Reading.the-variants.{Crate}
 use Rattle.tlv.proofs.Within.{Ends, object-within}
 use Rattle.listing.specs.Input.{itemOf}
-use Rattle.listing.specs.Lines.{counted, inRecord, leftOf, Found, foundBy, foundIn, behindOf}
+use Rattle.listing.specs.Lines.{counted, inRecord, leftOf, Found, foundBy, foundIn, nextRecord}
 use Rattle.listing.specs.declared.lines.Within.{Within}
 use Rattle.listing.proofs.Form.{item-ends}
 
@@ -63,7 +63,7 @@ all-itself (is n) = refl
 all-itself (no k) = tt
 
 -- the record behind
-pub next-sound : (s : List ℕ) (w : Within) (left n : ℕ) → Sound s w → itemOf (drop (w .place .at) s) ≡ is n → Sound s (behindOf left (w .place) n)
+pub next-sound : (s : List ℕ) (w : Within) (left n : ℕ) → Sound s w → itemOf (drop (w .place .at) s) ≡ is n → Sound s (nextRecord left (w .place) n)
 next-sound s w left n h e =
     let i = item-ends s (w .place .at) n (h .place .ends) e in
     record {
@@ -98,7 +98,7 @@ module _ (s : List ℕ) (w : Within) where
   found-malformed (suc left) h e g = rw (e, g)
 
   pub found-next : (left n : ℕ) → (left ≡ 0 → ⊥) → objectOf Crate (leftOf s w) ≡ no 11 → itemOf (drop (w .place .at) s) ≡ is n
-      → foundIn left s w ≡ foundIn (left - 1) s (behindOf (left - 1) (w .place) n)
+      → foundIn left s w ≡ foundIn (left - 1) s (nextRecord (left - 1) (w .place) n)
   unfolding foundIn
   found-next zero n h e g = absurd (h refl)
   found-next (suc left) n h e g =
@@ -125,4 +125,4 @@ found-lies zero s w h = lies-by s w (is none) h tt
 found-lies (suc left) s w h =
     lies-by s w _ h
     (all-then (Lies s) (λ n. itemOf (drop (w .place .at) s) ≡ is n) (itemOf (drop (w .place .at) s)) _ (all-itself (itemOf (drop (w .place .at) s)))
-    (λ n e. found-lies left s (behindOf left (w .place) n) (next-sound s w left n h e)))
+    (λ n e. found-lies left s (nextRecord left (w .place) n) (next-sound s w left n h e)))

@@ -16,7 +16,7 @@ use Rattle.tlv.specs.Object.{Object, sizeOf, objectOf}
 use Rattle.tlv.specs.declared.Reading.the-variants.{Crate}
 use Rattle.tlv.proofs.Within.{Ends, object-within}
 use Rattle.listing.specs.Input.{pairOf, itemOf, countOf}
-use Rattle.listing.specs.Lines.{Given, counted, inRecord, startBy, commandBy, commandStep, leftOf, Found, foundBy, foundIn, behindOf}
+use Rattle.listing.specs.Lines.{Given, counted, inRecord, startBy, commandBy, commandStep, leftOf, Found, foundBy, foundIn, nextRecord}
 use Rattle.listing.specs.Lines.{objectBy, lineOf, recordStep, stepOf, lineIn, next-line-is}
 use Rattle.listing.specs.declared.lines.Within.{Within}
 use Rattle.listing.specs.declared.lines.Lines.{Lines}
@@ -70,7 +70,7 @@ onward (suc left) s w h =
     (all-then (Onward s (w .at)) (λ n. itemOf (drop (w .place .at) s) ≡ is n) (itemOf (drop (w .place .at) s)) _
     (all-itself (itemOf (drop (w .place .at) s)))
     (λ n e.
-    let v = behindOf left (w .place) n in
+    let v = nextRecord left (w .place) n in
     all-weaken (Onward s (w .at)) (Onward s (v .at)) (foundIn left s v)
     (further s (w .at) (v .at) (omega (arith, h .inside))) (onward left s v (next-sound s w left n h e))))
     (objectOf Crate (leftOf s w)) refl
@@ -127,14 +127,14 @@ pub record Listed (s before : List ℕ) (st : Lines) (l : Line) : Type 0 where
   pub less : weight s (l .rest) < weight s st
   pub fits : l .len ≤ length before
 
-listed-by : (s before : List ℕ) (st : Lines) (l : Line) (y : Reply (Option Given)) → All (Less s (weight s st)) y
+line-lowers-by : (s before : List ℕ) (st : Lines) (l : Line) (y : Reply (Option Given)) → All (Less s (weight s st)) y
     → is (some l) ≡ lineIn (length before) y → Listed s before st l
-listed-by s before st l (is none) h e = absurd (no-line l e)
+line-lowers-by s before st l (is none) h e = absurd (no-line l e)
   where
     no-line : (l : Line) → _≡_ {A = Reply (Option Line)} (is (some l)) (is none) → ⊥
     no-line l e = let z : _≡_ {A = ℕ} 0 1 = cc in omega arith
-listed-by s before st l (no k) h e = absurd (no-is k (some l) (sym e))
-listed-by s before st l (is (some g)) h e = by (ltb (length before) (length (g .text))) refl (e ∙ refl)
+line-lowers-by s before st l (no k) h e = absurd (no-is k (some l) (sym e))
+line-lowers-by s before st l (is (some g)) h e = by (ltb (length before) (length (g .text))) refl (e ∙ refl)
   where
     by : (t : Bool) → ltb (length before) (length (g .text)) ≡ t
         → is (some l) ≡ cond t (no 16) (is (some (record { len = length (g .text); rest = g .rest }))) → Listed s before st l
@@ -146,5 +146,5 @@ listed-by s before st l (is (some g)) h e = by (ltb (length before) (length (g .
           fits = omega (arith, ap (λ (x : Line). x .len) same, ltb-false (length before) (length (g .text)) q);
         }
 
-pub listed : (s before after : List ℕ) (st : Lines) (l : Line) → next-line-is st s before (next.Line l) after → Listed s before st l
-listed s before after st l p = listed-by s before st l (stepOf st s) (step-less s st) (p .reply)
+pub line-lowers : (s before after : List ℕ) (st : Lines) (l : Line) → next-line-is st s before (next.Line l) after → Listed s before st l
+line-lowers s before after st l p = line-lowers-by s before st l (stepOf st s) (step-less s st) (p .reply)

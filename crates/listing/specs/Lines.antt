@@ -73,15 +73,15 @@ foundBy w (is o) further = is (some (record { within = w; object = is o }))
 foundBy w (no k) further = cond (eqb k 11) further (is (some (record { within = w; object = no k })))
 
 -- the record of n bytes behind, whose length stands at a place, with so many left behind it
-abbrev pub behindOf : ℕ → Place → ℕ → Within
-behindOf left p n = withinOf (p .at + 2) 0 (p .at + 2 + n) (p .number + 1) left
+abbrev pub nextRecord : ℕ → Place → ℕ → Within
+nextRecord left p n = withinOf (p .at + 2) 0 (p .at + 2 + n) (p .number + 1) left
 
 -- the next object or refusal, in this record or one behind it; at a record's end, which prints nothing, the next record is entered
 unfoldable pub foundIn : ℕ → List ℕ → Within → Reply (Option Found)
 foundIn zero s w = foundBy w (objectOf Crate (leftOf s w)) (is none)
 foundIn (suc left) s w =
     foundBy w (objectOf Crate (leftOf s w))
-    (then (itemOf (drop (w .place .at) s)) (λ n. foundIn left s (behindOf left (w .place) n)))
+    (then (itemOf (drop (w .place .at) s)) (λ n. foundIn left s (nextRecord left (w .place) n)))
 
 -- the states behind an object, and behind a refusal, where the record stops
 abbrev pub passedOf : Within → Object → Within
@@ -98,7 +98,8 @@ abbrev pub lineOf : Option Found → Reply (Option Given)
 lineOf none = is none
 lineOf (some f) = objectBy (f .within) (f .object)
 
--- a state whose record is counted, and its objects
+-- whether a state may stand in a record of this input: its end is counted, its place is not behind the end, and not more objects than
+-- bytes stand before it
 unfoldable pub inRecord : List ℕ → Within → Bool
 inRecord s w = cond (counted s (w .place .at) (w .place .number)) (cond (leb (w .at) (w .place .at)) (leb (w .object) (w .at)) false) false
 

@@ -10,7 +10,8 @@ pub use lines::NextLine;
 pub use lines::Place;
 pub use lines::Within;
 
-// The longest input that is listed, and a buffer in which every line fits.
+// The longest input that is listed.
 pub const INPUT_MAX: usize = 60000;
 
+// A buffer in which every line fits.
 pub const LINE_MAX: usize = 48;

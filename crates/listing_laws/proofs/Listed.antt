@@ -20,7 +20,7 @@ use Rattle.tlv.proofs.Within.{Ends, object-within}
 use Rattle.listing.specs.Input.{pairOf, bytesOf, Items, itemsOf, Input, inputOf}
 use Rattle.listing.specs.Text.{commands-word, records-word, countLine, malformedLine, commandLine, commandLines, objectLine, stoppedLine}
 use Rattle.listing.specs.Text.{objectLinesBy, objectLinesIn, recordLines, linesBy, linesOf}
-use Rattle.listing.specs.Lines.{given, withinOf, leftOf, Found, foundIn, lineOf, passedOf, stoppedOf, behindOf, stepOf}
+use Rattle.listing.specs.Lines.{given, withinOf, leftOf, Found, foundIn, lineOf, passedOf, stoppedOf, nextRecord, stepOf}
 use Rattle.listing.specs.declared.lines.Place.{Place}
 use Rattle.listing.specs.declared.lines.Within.{Within}
 use Rattle.listing.specs.declared.lines.Lines.{Lines}
@@ -137,12 +137,12 @@ module _ (s : List ℕ) where
       let w = inside p at object in
       let m = items-more n (drop (p .at) s) r i in
       let k = m .len in
-      let next = behindOf n p k in
+      let next = nextRecord n p k in
       let there = next-sound s w n k h (m .item) in
       let less : p .left - 1 ≡ n = omega (arith, z) in
       let some-left : p .left ≡ 0 → ⊥ = λ q. omega (arith, z, q) in
       let moved : foundIn (p .left) s w ≡ foundIn n s next =
-      found-next s w (p .left) k some-left e (m .item) ∙ ap (λ (j : ℕ). foundIn j s (behindOf j p k)) less in
+      found-next s w (p .left) k some-left e (m .item) ∙ ap (λ (j : ℕ). foundIn j s (nextRecord j p k)) less in
       let step : stepOf (lines.Records w) s ≡ stepOf (lines.Records next) s =
       sym (step-record s w (is-sound s w h)) ∙ ap (λ (x : Reply (Option Found)). then x lineOf) moved ∙ step-record s next (is-sound s next there) in
       let far : drop (2 + k) (drop (p .at) s) ≡ drop (p .at + 2 + k) s =

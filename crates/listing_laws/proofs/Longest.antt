@@ -27,7 +27,7 @@ use Rattle.listing.specs.Input.{pairOf, itemOf, bytesOf, countOf}
 use Rattle.listing.specs.Text.{commands-word, records-word, lc-word, le-word, short-word, extended-word, space, refused-word, decimal, hex}
 use Rattle.listing.specs.Text.{hexes, tagText, countLine, malformedLine, refusedText, headerText, lengthsText, commandText, commandLine}
 use Rattle.listing.specs.Text.{placeText, objectLine, stoppedLine}
-use Rattle.listing.specs.Lines.{Given, counted, inRecord, startBy, commandBy, commandStep, leftOf, Found, foundBy, foundIn, behindOf}
+use Rattle.listing.specs.Lines.{Given, counted, inRecord, startBy, commandBy, commandStep, leftOf, Found, foundBy, foundIn, nextRecord}
 use Rattle.listing.specs.Lines.{objectBy, lineOf, recordStep, stepOf, lineIn, textIn, next-line-is}
 use Rattle.listing.specs.declared.lines.Within.{Within}
 use Rattle.listing.specs.declared.lines.Lines.{Lines}
@@ -240,7 +240,7 @@ found-small zero s w = small-by w (objectOf tlv-reading.Crate (leftOf s w)) (is 
 found-small (suc left) s w =
     small-by w (objectOf tlv-reading.Crate (leftOf s w)) _ (object-small (leftOf s w))
     (all-then SmallIn (λ n. 2 + n ≤ length (drop (w .place .at) s)) (itemOf (drop (w .place .at) s)) _ (item-room (drop (w .place .at) s))
-    (λ n h. found-small left s (behindOf left (w .place) n)))
+    (λ n h. found-small left s (nextRecord left (w .place) n)))
 
 object-short : (s : List ℕ) (f : Found) (x : Reply Object) → Sound s (f .within)
     → All (λ o. (f .within .at + (o .at + o .len) ≤ f .within .place .at) × (1 ≤ o .at)) x → Small x → All Short (objectBy (f .within) x)

@@ -4,7 +4,7 @@ use mathlib.Core.Bool.{Bool, true, false, cond}
 use borrow.Author.Tests.{eq-eqb, ne-eqb, eqb-true}
 use lib.Dec.{eqb}
 use Rattle.basis.proofs.Truth.{both}
-use Rattle.class.specs.Chain.{bit, chained, chainOf, notTheLast}
+use Rattle.class.specs.Chain.{bit, chained, chainingOf, notTheLast}
 use Rattle.class.specs.declared.Class.{Class}
 use Rattle.class.specs.declared.chain.Chain.{Chain}
 use Rattle.class.specs.declared.chain.Chain.the-variants.{LastOrOnly, NotTheLast}
@@ -72,6 +72,6 @@ told : (x : Bool) → notTheLast (cond x NotTheLast LastOrOnly) ≡ x
 told true = refl
 told false = refl
 
-pub bit-is : (c : Class) (x : Chain) (y z : Bool) → x ≡ chainOf (c .cla) → y ≡ notTheLast x → y ≡ z → eqb (bit (c .cla)) 1 ≡ z
-unfolding chainOf
+pub bit-is : (c : Class) (x : Chain) (y z : Bool) → x ≡ chainingOf (c .cla) → y ≡ notTheLast x → y ≡ z → eqb (bit (c .cla)) 1 ≡ z
+unfolding chainingOf
 bit-is c x y z e f g = sym (told (eqb (bit (c .cla)) 1)) ∙ ap notTheLast (sym e) ∙ sym f ∙ g

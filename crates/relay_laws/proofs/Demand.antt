@@ -21,7 +21,7 @@ use Rattle.chain.specs.Jobs.{Job, Fair, HasRoom, pieces, several, given, replie
 use Rattle.chain.proofs.Jobs.{one-each, job-sent}
 use Rattle.chain.proofs.Demand.{pieces-given, every-piece-fits}
 use Rattle.exports_owned.specs.Copies.{commandNumbers}
-use Rattle.exports_relay.specs.Relay.{startOf, runIn, stateNumbers, Ended, Tells}
+use Rattle.exports_relay.specs.Relay.{runFrom, runIn, stateNumbers, Ended, Tells}
 use Rattle.exports_relay.specs.declared.State.{State}
 use Rattle.relay_laws.specs.Relay.{RelayedFor, numbersFor, ComesBack}
 use Rattle.relay_laws.proofs.Runs.{Comes, comes}
@@ -62,7 +62,7 @@ module _ (j : Job) (f : Fair j) where
 
   module _ (buffer room : List ℕ) (h : HasRoom room j) (g : j .buffer ≤ length buffer) where
     abbrev start : State
-    start = let w = j .wanted in startOf (chain-laws.startOf (w .class) (w .instruction) (w .p1) (w .p2) (w .le) (j .buffer))
+    start = let w = j .wanted in runFrom (chain-laws.startOf (w .class) (w .instruction) (w .p1) (w .p2) (w .le) (j .buffer))
 
     abbrev end : Ended
     end = runIn (length d + 1) start d buffer room

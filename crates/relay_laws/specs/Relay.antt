@@ -4,17 +4,15 @@ use mathlib.Core.Path.{_≡_}
 use mathlib.Core.List.{List, _∷_}
 use lib.ListN.{length}
 use Rattle.basis.specs.Part.{over}
-use Rattle.splitter.specs.Pieces.{chainOf}
 use Rattle.chain.specs.Jobs.{Job, pieces, several, given}
 use Rattle.exports_owned.specs.Copies.{commandNumbers}
-use Rattle.exports_relay.specs.Relay.{Relayed}
+use Rattle.exports_relay.specs.Relay.{cut-and-join-is}
 
 -- the promise of `gorvisclen_cut_and_join`, asked with a job
 abbrev pub RelayedFor : Job → List ℕ → List ℕ → List ℕ → ℕ → List ℕ → List ℕ → List ℕ → Type 0
 RelayedFor j buffer room out r buffer′ room′ out′ =
     let w = j .wanted in
-    Relayed (chainOf (w .class) (w .instruction) (w .p1) (w .p2) (length (w .«data»)) (w .le) (j .buffer)) (w .«data») buffer room out r
-    buffer′ room′ out′
+    cut-and-join-is (w .class) (w .instruction) (w .p1) (w .p2) (w .le) (w .«data») (j .buffer) buffer room out r buffer′ room′ out′
 
 -- the ten numbers: no refusal, all pieces, "more" to all but the last, and the command that is wanted
 abbrev pub numbersFor : Job → List ℕ

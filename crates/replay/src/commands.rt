@@ -5,7 +5,6 @@ use class::Class;
 use class::Reading;
 use command::Command;
 use command::CommandView;
-use command::Extended;
 use command::Extending;
 use command::Owned;
 use command::Parsed;

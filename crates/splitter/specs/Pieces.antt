@@ -124,7 +124,7 @@ saidWrite (write-next.Written w) = is (some w)
 saidWrite write-next.NoneLeft = is none
 saidWrite (write-next.Refused k) = no k
 
--- the promises of `new_non_extended`, `next` and `write_next`
+-- the promises of `new_non_extended` and `next`
 abbrev pub new-is : ℕ → ℕ → ℕ → ℕ → List ℕ → ℕ → ℕ → NewPieces → Type 0
 new-is c i p q d e m x = saidNew x ≡ chainOf c i p q (length d) e m
 
@@ -140,6 +140,7 @@ pub record Writes (p : Piece) (d before : List ℕ) (at : ℕ) (x : WriteNext) (
   pub reply : saidWrite x ≡ writing (some p) d (length before) at
   pub buffer : after ≡ bufferAfter (writing (some p) d (length before) at) (bytesOf p d) before at
 
+-- the promise of `write_next`
 pub record write-next-is (c : Pieces) (d before : List ℕ) (at : ℕ) (x : WriteNext) (after : List ℕ) : Type 0 where
   pub reply : saidWrite x ≡ writeOf c d (length before) at
   pub buffer : after ≡ bufferAfter (writeOf c d (length before) at) (pieceIn (nextOf c d) d) before at

@@ -25,6 +25,7 @@ pub enum Pieces {
     Done,
 }
 
+// A chain, or the refusal: 3, 13, and 14 for a buffer under 10.
 pub enum NewPieces {
     Pieces(Pieces),
     Refused(u8),

@@ -18,7 +18,7 @@ use Rattle.builder_laws.proofs.Shown.{le-read}
 use Rattle.splitter.specs.Pieces.{parts, pieceOf, piecesOf}
 use Rattle.basis.specs.Every.{Every}
 use Rattle.splitter_laws.specs.Number.{shortRoom, shortSizesIn, shortSizes, times, shortCount}
-use Rattle.splitter_laws.specs.Vectors.{Case, table, Cuts, Vectors}
+use Rattle.splitter_laws.specs.Vectors.{CutCase, cutTable, Cuts, Vectors}
 use Rattle.splitter_laws.proofs.Chain.{chain-buffer, chain-long}
 use Rattle.splitter_laws.proofs.Number.{parts-short, number-short}
 use Rattle.splitter_laws.proofs.Parts.{unsplit}
@@ -40,13 +40,13 @@ same-is (x ∷ xs) (y ∷ ys) h =
     cc (eqb-true x y (g .0), same-is xs ys (g .1))
 
 -- a case is computed: its numbers are within what the theorems are about, and the lengths in short mode are its own
-unfoldable computed : Case → Bool
+unfoldable computed : CutCase → Bool
 computed c =
     cond (leb (c .le) 256)
     (cond (leb (c .len) 65535) (cond (leb 10 (c .buffer)) (same (shortSizes (c .le) (c .len) (c .buffer)) (c .sizes)) false) false)
     false
 
-case : (c : Case) → computed c ≡ true → Cuts c
+case : (c : CutCase) → computed c ≡ true → Cuts c
 unfolding computed
 case c h b d mode le len =
     let low = both (leb (c .le) 256) _ h in
@@ -56,11 +56,11 @@ case c h b d mode le len =
     parts-short b d (c .buffer) (leb-true 10 (c .buffer) (ten .0)) (omega (arith, leb-true (c .len) 65535 (few .0))) mode
     ∙ rw (shows, len) (same-is (shortSizes (c .le) (c .len) (c .buffer)) (c .sizes) (ten .1))
 
-unfoldable all-computed : List Case → Bool
+unfoldable all-computed : List CutCase → Bool
 all-computed [] = true
 all-computed (c ∷ cs) = cond (computed c) (all-computed cs) false
 
-cases : (cs : List Case) → all-computed cs ≡ true → Every Cuts cs
+cases : (cs : List CutCase) → all-computed cs ≡ true → Every Cuts cs
 unfolding all-computed
 cases [] h = tt
 cases (c ∷ cs) h =
@@ -80,7 +80,7 @@ pub vectors : Vectors
 unfolding unlessZero shortRoom shortSizesIn times shortCount same computed all-computed
 vectors =
     record {
-      cuts = cases table refl;
+      cuts = cases cutTable refl;
       pieces-109 = λ b d mode le len.
           length-map (parts b d 10) pieceOf ∙ number-short b d 10 (omega arith) (omega arith) mode
           ∙ rw (le-read b .number 1 le (λ _. omega arith), len);

@@ -12,14 +12,14 @@ use Rattle.basis.specs.Every.{Every}
 use Rattle.splitter_laws.specs.Number.{sizeOf}
 
 -- Le, how many data bytes, the buffer, and the lengths of the parts' data
-pub record Case : Type 0 where
+pub record CutCase : Type 0 where
   pub le : ℕ
   pub len : ℕ
   pub buffer : ℕ
   pub sizes : List ℕ
 
-abbrev pub table : List Case
-table =
+abbrev pub cutTable : List CutCase
+cutTable =
     record { le = 1; len = 5; buffer = 10; sizes = 4 ∷ 1 ∷ [] }
     ∷ record { le = 256; len = 255; buffer = 261; sizes = 255 ∷ [] }
     ∷ record { le = 0; len = 256; buffer = 261; sizes = 254 ∷ 2 ∷ [] }
@@ -29,13 +29,13 @@ table =
     ∷ []
 
 -- so a command in short mode is cut
-abbrev pub Cuts : Case → Type 0
+abbrev pub Cuts : CutCase → Type 0
 Cuts c =
     (b : CommandBuilder) (d : List ℕ) → b .mode ≡ Unsupported → b .le ≡ Ne (c .le) → length d ≡ c .len
     → map sizeOf (parts b d (c .buffer)) ≡ c .sizes
 
 pub record Vectors : Type 0 where
-  pub cuts : Every Cuts table
+  pub cuts : Every Cuts cutTable
   pub pieces-109 : (b : CommandBuilder) (d : List ℕ) → b .mode ≡ Unsupported → b .le ≡ Ne 1 → length d ≡ 300
       → length (piecesOf b d 10) ≡ 109
   pub one-piece : (b : CommandBuilder) (d : List ℕ) → b .mode ≡ Unsupported → b .le ≡ Ne 256 → length d ≡ 255

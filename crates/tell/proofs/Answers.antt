@@ -7,7 +7,7 @@ use lib.ListN.{length}
 use borrow.Author.Tests.{lt-ltb, le-ltb}
 use Rattle.basis.specs.Reply.{Reply, is, no, then}
 use Rattle.basis.specs.Part.{over}
-use Rattle.tell.specs.Answers.{atMost16, short, refuse-is, Answers, unlessRefused, Numbered}
+use Rattle.tell.specs.Answers.{atMost16, short, refuse-is, Answers, unlessRefused, NumbersOf}
 use Rattle.tell.specs.declared.Numbers.{Numbers}
 
 -- a refusal, for a slice too short or not
@@ -42,12 +42,12 @@ module _ (vs out : List ℕ) (r : ℕ) (after : List ℕ) (a : Answers (length v
 
 -- `Numbers` of a reply of two numbers, and of three
 module _ {A : Type 0} (f g : A → ℕ) where
-  pub of-two : (x : Reply A) (r : Numbers) → Numbered (then x (λ a. is (f a ∷ g a ∷ []))) r
+  pub of-two : (x : Reply A) (r : Numbers) → NumbersOf (then x (λ a. is (f a ∷ g a ∷ []))) r
       → unlessRefused (r .0) (r .1 ∷ r .2 ∷ []) ≡ then x (λ a. is (f a ∷ g a ∷ []))
-  of-two (is a) r h = rw (h .none, h .first, h .second)
-  of-two (no k) r h = rw (h .none, h .refusal)
+  of-two (is a) r h = rw (h .told, h .first, h .second)
+  of-two (no k) r h = rw (h .told, h .refusal)
 
-  pub of-three : (e : A → ℕ) (x : Reply A) (r : Numbers) → Numbered (then x (λ a. is (f a ∷ g a ∷ e a ∷ []))) r
+  pub of-three : (e : A → ℕ) (x : Reply A) (r : Numbers) → NumbersOf (then x (λ a. is (f a ∷ g a ∷ e a ∷ []))) r
       → unlessRefused (r .0) (r .1 ∷ r .2 ∷ r .3 ∷ []) ≡ then x (λ a. is (f a ∷ g a ∷ e a ∷ []))
-  of-three e (is a) r h = rw (h .none, h .first, h .second, h .third)
-  of-three e (no k) r h = rw (h .none, h .refusal)
+  of-three e (is a) r h = rw (h .told, h .first, h .second, h .third)
+  of-three e (no k) r h = rw (h .told, h .refusal)

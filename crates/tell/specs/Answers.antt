@@ -51,9 +51,9 @@ nth i (is vs) = getD vs i 0
 nth i (no k) = 0
 
 -- the promise of a function that makes `Numbers` of a reply
-pub record Numbered (x : Reply (List ℕ)) (r : Numbers) : Type 0 where
+pub record NumbersOf (x : Reply (List ℕ)) (r : Numbers) : Type 0 where
   pub refusal : r .0 ≡ status x
-  pub none : eqb (r .0) 0 ≡ isTold x
+  pub told : eqb (r .0) 0 ≡ isTold x
   pub first : r .1 ≡ nth 0 x
   pub second : r .2 ≡ nth 1 x
   pub third : r .3 ≡ nth 2 x

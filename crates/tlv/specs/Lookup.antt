@@ -43,6 +43,7 @@ unfoldable pub follow : Reading → List ℕ → Span → List ℕ → Reply Spa
 follow r s p [] = is p
 follow r s p (t ∷ path) = then (seek r t (p .at) (part s p)) (λ q. follow r s q path)
 
+-- the value that a path leads to, from the whole record
 abbrev pub lookup : Reading → List ℕ → List ℕ → Reply Span
 lookup r s path = follow r s (whole s) path
 

@@ -8,7 +8,7 @@ use lib.Seq.{length-take-le}
 use borrow.Rule.Slice.PartMut.{putMid, same-len-mid}
 use Rattle.listing.specs.Lines.{next-line-is}
 use Rattle.listing.specs.declared.lines.NextLine.{NextLine}
-use Rattle.listing.proofs.Onward.{weight, Listed, listed}
+use Rattle.listing.proofs.Onward.{weight, Listed, line-lowers}
 use Rattle.apdulist.proofs.print.Statement.{statement}
 use Rattle.apdulist.proofs.print.Tie as tie
 
@@ -31,7 +31,7 @@ step c =
     let c3 = c .before .before .before in
     let c5 = c3 .before .before in
     let c7 = c5 .before .before in
-    listed (c7 .args .input .now) (lent c) _ (c5 .loop .lines) (c .line .given .0 .0)
+    line-lowers (c7 .args .input .now) (lent c) _ (c5 .loop .lines) (c .line .given .0 .0)
     (subst (λ (x : NextLine). next-line-is (c5 .loop .lines) (c7 .args .input .now) (lent c) x (c3 .next-line .last .1 .1 .0)) (c .line .given .1)
     (c3 .next-line .ensures))
 
