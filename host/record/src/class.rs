@@ -18,7 +18,7 @@ fn range_number(range: Range) -> u8 {
     }
 }
 
-fn messaging_number(messaging: SecureMessaging) -> u8 {
+fn indication_number(messaging: SecureMessaging) -> u8 {
     match messaging {
         SecureMessaging::None => 0,
         SecureMessaging::Proprietary => 1,
@@ -45,7 +45,7 @@ fn from_byte(byte: u8) -> Answer {
     Answer::accepted()
         .byte(class.into_inner())
         .byte(range_number(class.range()))
-        .byte(messaging_number(messaging))
+        .byte(indication_number(messaging))
         .flag(messaging.none())
         .byte(chain_number(chain))
         .flag(chain.last_or_only())
