@@ -5,7 +5,7 @@ use std::hint::black_box;
 use std::process;
 use std::time::Instant;
 
-use gorvisclen::{Chain, Record, Refused, BUFFER_LEN, JOIN_NUMBERS, PIECE_NUMBERS};
+use gorvisclen::{Pieces, Reassembler, Refused, BUFFER_LEN, JOIN_NUMBERS, PIECE_NUMBERS};
 use original::command::{Command, CommandView};
 
 use crate::Lines;
@@ -38,7 +38,7 @@ fn longest() -> Vec<Vec<u8>> {
 /// The pieces that the cutter makes of a command.
 fn cut(available: usize) -> Vec<Vec<u8>> {
     let data: Vec<u8> = (0..LEN).map(|i| (i / 254) as u8).collect();
-    let mut chain = Chain::new_non_extended(HEADER, &data, 0, available).unwrap();
+    let mut chain = Pieces::new_non_extended(HEADER, &data, 0, available).unwrap();
     let mut pieces = Vec::new();
     while !chain.done {
         let (mut piece, mut out) = (vec![0; available], [0; PIECE_NUMBERS]);
@@ -65,13 +65,13 @@ fn by_rust(pieces: &[Vec<u8>], held: &mut Held) -> u8 {
 
 #[inline(never)]
 fn by_ours(pieces: &[Vec<u8>], room: &mut [u8], out: &mut [u64; JOIN_NUMBERS]) -> u8 {
-    let mut record = Record::CLOSED;
+    let mut record = Reassembler::CLOSED;
     for piece in pieces {
         if let Err(Refused(number)) = record.join(piece, room, out) {
             return number;
         }
         let [.., opened, class, instruction, p1, p2, held] = *out;
-        record = Record::of([opened, class, instruction, p1, p2, held]);
+        record = Reassembler::of([opened, class, instruction, p1, p2, held]);
     }
     0
 }

@@ -6,7 +6,7 @@ use std::hint::black_box;
 use std::process;
 use std::time::Instant;
 
-use gorvisclen::{Chain, Refused, BUFFER_LEN, PIECE_NUMBERS};
+use gorvisclen::{Pieces, Refused, BUFFER_LEN, PIECE_NUMBERS};
 use original::command::class::Class;
 use original::command::CommandBuilder;
 
@@ -67,7 +67,7 @@ fn by_rust(sample: &Sample, buffer: &mut [u8], out: &mut Out) -> u8 {
 
 /// Ours, by the functions that are exported.
 fn pieces(sample: &Sample, buffer: &mut [u8], out: &mut Out) -> Result<(), Refused> {
-    let mut chain = Chain::new_non_extended(HEADER, &sample.data, sample.le, sample.available)?;
+    let mut chain = Pieces::new_non_extended(HEADER, &sample.data, sample.le, sample.available)?;
     *out = [0, 0];
     while !chain.done {
         let mut told = [0; PIECE_NUMBERS];

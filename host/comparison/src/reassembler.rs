@@ -10,7 +10,7 @@ mod steps;
 
 use std::ops::Range;
 
-use gorvisclen::{Record, JOIN_NUMBERS, RECORD_NUMBERS};
+use gorvisclen::{Reassembler, JOIN_NUMBERS, STATE_NUMBERS};
 
 use self::model::BIT;
 use crate::inputs::Inputs;
@@ -107,7 +107,7 @@ fn any_piece(inputs: &mut Inputs, header: [u8; 4], free: usize) -> Vec<u8> {
 }
 
 /// Any record, with any number of bytes held.
-fn any_record(inputs: &mut Inputs, header: [u8; 4], room_len: usize) -> Record {
+fn any_record(inputs: &mut Inputs, header: [u8; 4], room_len: usize) -> Reassembler {
     let held = match inputs.below(4) {
         0 => inputs.number() as usize,
         1 => usize::MAX - inputs.below(300),
@@ -125,7 +125,7 @@ fn any_record(inputs: &mut Inputs, header: [u8; 4], room_len: usize) -> Record {
         1 => 1,
         _ => inputs.number() as u8,
     };
-    Record {
+    Reassembler {
         opened,
         header,
         held,
@@ -151,12 +151,12 @@ fn sequences(tally: &mut Tally, inputs: &mut Inputs, turns: Range<usize>) {
         };
         let mut room = bytes(room_len);
         let header = some_header(inputs);
-        let mut record = Record::CLOSED;
+        let mut record = Reassembler::CLOSED;
         for _ in 0..12 {
             match inputs.below(24) {
                 0 => record = any_record(inputs, header, room_len),
                 1 => {
-                    let len = some_numbers(inputs, RECORD_NUMBERS);
+                    let len = some_numbers(inputs, STATE_NUMBERS);
                     record = steps::reset(tally, record, len);
                 }
                 2 => {
@@ -179,12 +179,12 @@ fn sequences(tally: &mut Tally, inputs: &mut Inputs, turns: Range<usize>) {
 
 /// One piece in a room of three bytes of which a chain holds one, and in one of which no chain holds any.
 fn both_records(tally: &mut Tally, header: [u8; 4], piece: &[u8]) {
-    let open = Record {
+    let open = Reassembler {
         opened: 1,
         header,
         held: 1,
     };
-    for record in [Record::CLOSED, open] {
+    for record in [Reassembler::CLOSED, open] {
         let mut room: Lent<u8> = bytes(3);
         steps::join(tally, record, piece, &mut room, JOIN_NUMBERS);
     }
@@ -223,7 +223,7 @@ fn headers(tally: &mut Tally) {
                 let (mut header, mut piece) = (HEADERS[0], HEADERS[0]);
                 (header[at], piece[at]) = (ours, theirs);
                 let mut room: Lent<u8> = bytes(3);
-                let record = Record {
+                let record = Reassembler {
                     opened: 1,
                     header,
                     held: 2,

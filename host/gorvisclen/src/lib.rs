@@ -42,9 +42,9 @@ pub use class::{class, class_as_chained, class_constants, range, CLASS_CONSTANTS
 pub use command::{
     command, command_data, command_extend, command_owned, COMMAND_NUMBERS, OWNED_NUMBERS,
 };
-pub use reassembler::{joined_data, Record, JOIN_NUMBERS, RECORD_NUMBERS};
+pub use reassembler::{joined_data, Reassembler, JOIN_NUMBERS, STATE_NUMBERS};
 pub use relay::{cut_and_join, RELAY_NUMBERS};
-pub use splitter::{should_split, Chain, BUFFER_LEN, PIECE_NUMBERS, SPLIT_NUMBERS};
+pub use splitter::{should_split, Pieces, BUFFER_LEN, PIECE_NUMBERS, SPLIT_NUMBERS};
 pub use tlv::{
     get_data_object, put_data_object, take_data_object, take_len, take_tag, value, LEN_NUMBERS,
     LOOKUP_NUMBERS, OBJECT_NUMBERS, TAG_NUMBERS,

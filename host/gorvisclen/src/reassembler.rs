@@ -2,11 +2,11 @@
 
 use crate::{reply, Reply};
 
-/// How many numbers `Record::join` writes.
+/// How many numbers `Reassembler::join` writes.
 pub const JOIN_NUMBERS: usize = 14;
 
-/// How many numbers a record is, and `Record::reset` writes.
-pub const RECORD_NUMBERS: usize = 6;
+/// How many numbers a record is, as `Reassembler::reset` writes it.
+pub const STATE_NUMBERS: usize = 6;
 
 // A slice passes as its pointer and its length.
 extern "C" {
@@ -48,14 +48,14 @@ extern "C" {
 /// A record: `opened` 0 where no chain is open, and then the others say nothing; any other number for an open chain, with the
 /// header of its pieces, whose bit 0x10 says nothing, and how many bytes of the room are held.
 #[derive(Clone, Copy, Debug, PartialEq, Eq)]
-pub struct Record {
+pub struct Reassembler {
     pub opened: u8,
     pub header: [u8; 4],
     pub held: usize,
 }
 
-impl Record {
-    pub const CLOSED: Record = Record {
+impl Reassembler {
+    pub const CLOSED: Reassembler = Reassembler {
         opened: 0,
         header: [0; 4],
         held: 0,
@@ -63,8 +63,8 @@ impl Record {
 
     /// The record of six numbers: 1, class byte, instruction byte, P1, P2, bytes held; or zeros where no chain is open.
     #[inline]
-    pub fn of([opened, class, instruction, p1, p2, held]: [u64; RECORD_NUMBERS]) -> Record {
-        Record {
+    pub fn of([opened, class, instruction, p1, p2, held]: [u64; STATE_NUMBERS]) -> Reassembler {
+        Reassembler {
             opened: opened as u8,
             header: [class as u8, instruction as u8, p1 as u8, p2 as u8],
             held: held as usize,

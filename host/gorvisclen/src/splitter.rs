@@ -89,7 +89,7 @@ pub fn should_split(
 /// A chain of pieces in the mode `SHORT_ONLY`, by numbers: the command's header, what it expects, the most bytes of a piece, the
 /// place of the data to which it has come, and whether no piece is left.
 #[derive(Clone, Copy, Debug, PartialEq, Eq)]
-pub struct Chain {
+pub struct Pieces {
     pub header: [u8; 4],
     pub le: u16,
     pub available: usize,
@@ -97,7 +97,7 @@ pub struct Chain {
     pub done: bool,
 }
 
-impl Chain {
+impl Pieces {
     /// A chain for a command with these data. Refusals: 3; 13; 14 where `available` is under 10.
     #[inline]
     pub fn new_non_extended(
@@ -105,7 +105,7 @@ impl Chain {
         data: &[u8],
         le: u16,
         available: usize,
-    ) -> Result<Chain, Refused> {
+    ) -> Result<Pieces, Refused> {
         let [class, instruction, p1, p2] = header;
         reply(unsafe {
             gorvisclen_new_non_extended(
@@ -119,7 +119,7 @@ impl Chain {
                 available,
             )
         })?;
-        Ok(Chain {
+        Ok(Pieces {
             header,
             le,
             available,
@@ -158,8 +158,8 @@ impl Chain {
 
     /// The chain behind a piece, by the numbers that `write_next` wrote.
     #[inline]
-    pub fn behind(self, [_, _, left, place, le]: [u64; PIECE_NUMBERS]) -> Chain {
-        Chain {
+    pub fn behind(self, [_, _, left, place, le]: [u64; PIECE_NUMBERS]) -> Pieces {
+        Pieces {
             le: le as u16,
             place: place as usize,
             done: left == 0,

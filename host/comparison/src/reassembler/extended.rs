@@ -3,7 +3,7 @@
 
 use std::ops::Range;
 
-use gorvisclen::{Record, Refused, JOIN_NUMBERS};
+use gorvisclen::{Reassembler, Refused, JOIN_NUMBERS};
 use original::command::{Command, CommandView, FromSliceError};
 
 use super::model::BIT;
@@ -73,11 +73,11 @@ fn told<const S: usize>(held: &Command<S>) -> [u64; JOIN_NUMBERS] {
 fn compare<const S: usize>(
     tally: &mut Tally,
     operation: &'static str,
-    record: Record,
+    record: Reassembler,
     piece: &[u8],
     before: &Lent<u8>,
     theirs: Result<&Command<S>, u8>,
-) -> Record {
+) -> Reassembler {
     let (mut room, mut out) = (before.clone(), numbers(JOIN_NUMBERS));
     let mut rest = record;
     let reply = theirs.map_err(Refused).map(|held| {
@@ -85,7 +85,7 @@ fn compare<const S: usize>(
         let numbers = told(held);
         out.part().copy_from_slice(&numbers);
         let [.., a, b, c, d, e, f] = numbers;
-        rest = Record::of([a, b, c, d, e, f]);
+        rest = Reassembler::of([a, b, c, d, e, f]);
     });
     let theirs = Outcome::new(reply, out, room).reading(&[piece]);
 
@@ -106,7 +106,7 @@ fn beside<const S: usize>(tally: &mut Tally, pieces: &[Vec<u8>], filled: usize) 
         FromSliceError::TooLong => 18,
         _ => panic!("a piece that the Rust does not read: {}", hex(&pieces[0])),
     });
-    let mut record = compare(tally, FIRST, Record::CLOSED, &pieces[0], &room, theirs);
+    let mut record = compare(tally, FIRST, Reassembler::CLOSED, &pieces[0], &room, theirs);
     let Ok(mut held) = first else { return };
     room.part()[..held.data().len()].copy_from_slice(held.data());
     for piece in &pieces[1..] {

@@ -3,7 +3,7 @@
 
 use std::ops::Range;
 
-use gorvisclen::{Chain, Record, Refused, BUFFER_LEN, JOIN_NUMBERS, PIECE_NUMBERS};
+use gorvisclen::{Pieces, Reassembler, Refused, BUFFER_LEN, JOIN_NUMBERS, PIECE_NUMBERS};
 
 use super::model::{self, BIT};
 use super::{around, some_header, some_piece, steps};
@@ -51,7 +51,7 @@ impl Command {
 
     /// Its pieces, as the exported cutter writes them.
     fn pieces(&self) -> Vec<Vec<u8>> {
-        let chain = Chain::new_non_extended(self.header, &self.data, self.le, self.available);
+        let chain = Pieces::new_non_extended(self.header, &self.data, self.le, self.available);
         let mut chain = chain.expect("a chain");
         let mut buffer = vec![0; self.available.min(BUFFER_LEN)];
         let mut pieces = Vec::new();
@@ -79,7 +79,7 @@ impl Command {
 
 /// What a run has come to: the record, the room as it has to be, and ours.
 struct Run {
-    record: Record,
+    record: Reassembler,
     demanded: Lent<u8>,
     room: Lent<u8>,
 }
@@ -116,7 +116,7 @@ impl Run {
             tally.compare(operation, &[], input, &theirs, &ours);
         }
         if let Ok([.., a, b, c, d, e, f]) = demanded {
-            self.record = Record::of([a, b, c, d, e, f]);
+            self.record = Reassembler::of([a, b, c, d, e, f]);
         }
     }
 
@@ -189,13 +189,13 @@ fn run(tally: &mut Tally, inputs: &mut Inputs, commands: &[Command], more: usize
     let longest = commands.iter().map(|command| command.data.len()).max();
     let room = bytes(longest.unwrap_or(0) + more);
     let mut run = Run {
-        record: Record::CLOSED,
+        record: Reassembler::CLOSED,
         demanded: room.clone(),
         room,
     };
     for command in commands {
         run.command(tally, inputs, command, most);
-        assert_eq!(run.record, Record::CLOSED);
+        assert_eq!(run.record, Reassembler::CLOSED);
     }
 }
 

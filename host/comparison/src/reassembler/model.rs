@@ -1,6 +1,6 @@
 //! Joining as document 01 tells it, under "Reassembly" and "Numbers of refusal". A piece is read by the Rust.
 
-use gorvisclen::{Record, JOIN_NUMBERS};
+use gorvisclen::{Reassembler, JOIN_NUMBERS};
 
 use crate::command::by_rust;
 
@@ -21,9 +21,9 @@ impl Joined<'_> {
     }
 
     /// The record after the piece.
-    pub fn rest(&self) -> Record {
+    pub fn rest(&self) -> Reassembler {
         let [.., a, b, c, d, e, f] = self.numbers;
-        Record::of([a, b, c, d, e, f])
+        Reassembler::of([a, b, c, d, e, f])
     }
 }
 
@@ -33,7 +33,7 @@ fn apart([class, rest @ ..]: [u8; 4]) -> (u8, [u8; 3]) {
 }
 
 /// A piece in a room of that length.
-pub fn join(record: Record, piece: &[u8], room_len: usize) -> Result<Joined<'_>, u8> {
+pub fn join(record: Reassembler, piece: &[u8], room_len: usize) -> Result<Joined<'_>, u8> {
     let open = record.opened != 0;
     let parsed = by_rust(piece);
     if open && record.header[0] == 0xFF && !matches!(parsed, Err(1)) {

@@ -3,7 +3,7 @@
 
 use std::ops::Range;
 
-use gorvisclen::{Record, BUFFER_LEN, RELAY_NUMBERS};
+use gorvisclen::{Reassembler, BUFFER_LEN, RELAY_NUMBERS};
 use original::command::class::Class;
 use original::command::{ChainedCommandIterator, CommandBuilder};
 
@@ -55,7 +55,7 @@ impl Asked<'_> {
         (buffer, room): (&mut [u8], &mut [u8]),
         told: &mut [u64; RELAY_NUMBERS],
     ) -> Result<(), u8> {
-        let mut record = Record::CLOSED;
+        let mut record = Reassembler::CLOSED;
         for piece in chain {
             let len = piece.required_len();
             let mut part = buffer.get_mut(..len).ok_or(16)?;

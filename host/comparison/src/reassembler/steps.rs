@@ -1,6 +1,6 @@
 //! One call each, compared with the model.
 
-use gorvisclen::{Record, Refused, JOIN_NUMBERS, RECORD_NUMBERS};
+use gorvisclen::{Reassembler, Refused, JOIN_NUMBERS, STATE_NUMBERS};
 
 use super::model;
 use crate::lent::{bytes, demanded, hex, left, numbers, or_short, Lent, Outcome};
@@ -18,11 +18,11 @@ const DATA: &str = "reassembler::data (no Rust: held to a rule)";
 /// Compares one piece. The room is as it has to be after it; so is the record that is given back.
 pub fn join(
     tally: &mut Tally,
-    record: Record,
+    record: Reassembler,
     piece: &[u8],
     room: &mut Lent<u8>,
     len: usize,
-) -> Record {
+) -> Reassembler {
     let room_len = room.part().len();
     let joined = model::join(record, piece, room_len);
     let operation = match &joined {
@@ -52,13 +52,13 @@ pub fn join(
 }
 
 /// Compares a reset.
-pub fn reset(tally: &mut Tally, record: Record, len: usize) -> Record {
-    let theirs = demanded(Ok([0; RECORD_NUMBERS]), numbers(len));
+pub fn reset(tally: &mut Tally, record: Reassembler, len: usize) -> Reassembler {
+    let theirs = demanded(Ok([0; STATE_NUMBERS]), numbers(len));
     let ours = left(numbers(len), |out| record.reset(out));
     let input = || format!("{record:?}, out of {len} numbers");
     tally.compare(RESET, &[], input, &theirs, &ours);
     match len {
-        RECORD_NUMBERS.. => Record::CLOSED,
+        STATE_NUMBERS.. => Reassembler::CLOSED,
         _ => record,
     }
 }

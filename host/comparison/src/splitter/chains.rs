@@ -23,7 +23,7 @@ const DONE: &str =
 /// A chain to cut, as a host has it.
 #[derive(Clone, Copy)]
 pub struct Asked<'a> {
-    pub chain: gorvisclen::Chain,
+    pub chain: gorvisclen::Pieces,
     pub data: &'a [u8],
 }
 
@@ -32,7 +32,7 @@ pub type Into = (usize, usize, usize);
 
 impl<'a> Asked<'a> {
     pub fn new(header: [u8; 4], data: &'a [u8], le: u16, available: usize) -> Self {
-        let chain = gorvisclen::Chain {
+        let chain = gorvisclen::Pieces {
             header,
             le,
             available,
@@ -43,7 +43,7 @@ impl<'a> Asked<'a> {
     }
 
     pub fn shown(&self) -> String {
-        let gorvisclen::Chain {
+        let gorvisclen::Pieces {
             header,
             le,
             available,
@@ -59,7 +59,7 @@ impl<'a> Asked<'a> {
 
     /// The chain of the Rust; 14 for a buffer under 10, behind its own refusals.
     fn of_rust(&self) -> Result<rust::Chain<'a>, u8> {
-        let gorvisclen::Chain {
+        let gorvisclen::Pieces {
             header,
             le,
             available,
@@ -74,7 +74,7 @@ impl<'a> Asked<'a> {
 
     /// Compares how a chain is made, and gives it where it is.
     fn made(&self, tally: &mut Tally) -> Option<rust::Chain<'a>> {
-        let gorvisclen::Chain {
+        let gorvisclen::Pieces {
             header,
             le,
             available,
@@ -88,7 +88,7 @@ impl<'a> Asked<'a> {
         };
         let outcome = |reply: Reply| Outcome::new(reply, numbers(0), bytes(0));
         let reply = theirs.as_ref().map(|_| ()).map_err(|&n| Refused(n));
-        let ours = gorvisclen::Chain::new_non_extended(header, self.data, le, available);
+        let ours = gorvisclen::Pieces::new_non_extended(header, self.data, le, available);
         let as_told = ours.map(|chain| assert_eq!(chain, self.chain));
         let input = || self.shown();
         tally.compare(operation, &[], input, &outcome(reply), &outcome(as_told));
@@ -159,7 +159,7 @@ impl<'a> Asked<'a> {
 
     /// Compares the next piece of a chain in any state.
     pub fn next_at(&self, tally: &mut Tally, into: Into) {
-        let gorvisclen::Chain {
+        let gorvisclen::Pieces {
             header,
             le,
             available,

@@ -1,6 +1,6 @@
 //! Cases whose answers are written down, from document 01.
 
-use gorvisclen::{Chain, Refused, PIECE_NUMBERS};
+use gorvisclen::{Pieces, Refused, PIECE_NUMBERS};
 
 use crate::builder::Asked;
 use crate::lent::{bytes, numbers, Outcome};
@@ -70,7 +70,7 @@ pub fn steps(tally: &mut Tally) {
 }
 
 /// The sizes of the pieces that a chain writes, or the number of a refusal.
-fn sizes(chain: Result<Chain, Refused>, data: &[u8]) -> Result<Vec<(usize, usize)>, Refused> {
+fn sizes(chain: Result<Pieces, Refused>, data: &[u8]) -> Result<Vec<(usize, usize)>, Refused> {
     let mut chain = chain?;
     let mut sizes = vec![];
     let mut buffer = [0; 261];
@@ -91,7 +91,7 @@ fn sizes(chain: Result<Chain, Refused>, data: &[u8]) -> Result<Vec<(usize, usize
 pub fn pieces(tally: &mut Tally) {
     let data = vec![0xAA; 65_536];
     let mut held = |le, n, available, demanded: Result<Vec<(usize, usize)>, Refused>| {
-        let chain = Chain::new_non_extended(HEADER, &data[..n], le, available);
+        let chain = Pieces::new_non_extended(HEADER, &data[..n], le, available);
         let outcome = |sizes: Result<Vec<(usize, usize)>, Refused>| {
             let numbers_of = sizes.clone().unwrap_or_default();
             let mut out = numbers(240);

@@ -104,7 +104,7 @@ pub struct Chain<'a> {
     len: usize,
 }
 
-/// The next piece of a chain: its bytes, and the numbers that `Chain::write_next` writes.
+/// The next piece of a chain: its bytes, and the numbers that `Pieces::write_next` writes.
 pub type Piece = (Vec<u8>, [u64; PIECE_NUMBERS]);
 
 impl<'a> Chain<'a> {
