@@ -105,15 +105,24 @@ fn of_length(len: usize, record: impl Fn(usize) -> Vec<u8>) -> Vec<u8> {
     bytes
 }
 
-/// Document 01's example, and inputs at the edges of its form, its commands and its records.
-pub fn named() -> Vec<Vec<u8>> {
-    let example = b"\x00\x02\x00\x04\x00\xA4\x04\x00\x00\x05\xFF\xB0\x00\x00\x00\x00\x01\x00\x06\x5F\x24\x03\x26\x10\x09";
+/// Document 01's example.
+const EXAMPLE: &[u8] = b"\x00\x02\x00\x04\x00\xA4\x04\x00\x00\x05\xFF\xB0\x00\x00\x00\x00\x01\x00\x06\x5F\x24\x03\x26\x10\x09";
+
+/// An input of one command.
+fn one(apdu: &[u8]) -> Vec<u8> {
+    input(&[apdu.to_vec()], &[])
+}
+
+/// An input of one record.
+fn only(record: &[u8]) -> Vec<u8> {
+    input(&[], &[record.to_vec()])
+}
+
+/// Inputs at the edges of their form, and of their length.
+fn edges_of_form() -> Vec<Vec<u8>> {
     let empty = input(&[], &[]);
     let smallest = |n: usize| vec![0x00; n];
-    let one = |apdu: &[u8]| input(&[apdu.to_vec()], &[]);
-    let only = |record: &[u8]| input(&[], &[record.to_vec()]);
-    let mut all = vec![
-        example.to_vec(),
+    vec![
         vec![],
         empty.clone(),
         [&empty[..], &[0]].concat(),
@@ -128,6 +137,19 @@ pub fn named() -> Vec<Vec<u8>> {
         only(&[0x5A, 0x00, 0x5F, 0x80, 0x00, 0x5A, 0x00]),
         input(&vec![vec![]; 14_998], &vec![vec![]; 15_000]),
         input(&vec![vec![0; 4]; 9_999], &[]),
+    ]
+}
+
+/// Records that end too early, or hold no object; and several.
+fn edges_of_records() -> Vec<Vec<u8>> {
+    let several = [
+        vec![0x5F, 0x24, 0x00],
+        vec![],
+        vec![0x5F],
+        vec![],
+        vec![0xDF, 0x81, 0x01, 0x81, 0x00],
+    ];
+    vec![
         only(&[]),
         only(&[0x00, 0x00]),
         only(&[0x5A, 0x00, 0x5F, 0x80, 0x00]),
@@ -135,37 +157,39 @@ pub fn named() -> Vec<Vec<u8>> {
         only(&[0x5A]),
         only(&[0x5A, 0x02, 0x00]),
         only(&[0x5A, 0x83, 0x00, 0x00, 0x01, 0x00]),
-        input(
-            &[],
-            &[
-                vec![0x5F, 0x24, 0x00],
-                vec![],
-                vec![0x5F],
-                vec![],
-                vec![0xDF, 0x81, 0x01, 0x81, 0x00],
-            ],
-        ),
-    ];
-    let objects = [
-        0x5A, 0x01, 0xAA, 0x5F, 0x24, 0x03, 0x26, 0x10, 0x09, 0xDF, 0x81, 0x01, 0x82, 0x00, 0x01,
-        0xBB,
-    ];
-    all.extend((0..=objects.len()).map(|n| only(&objects[..n])));
-    for body in [
-        &[][..],
-        &[0x00],
-        &[0x07],
-        &[0x00, 0x05],
-        &[0x02, 0xAA],
-        &[0x01, 0xAA],
-        &[0x01, 0xAA, 0x00],
-        &[0x00, 0x00, 0x00],
-        &[0x00, 0x00, 0x01],
-        &[0x00, 0x00, 0x01, 0xAA],
-        &[0x00, 0x00, 0x01, 0xAA, 0x00, 0x00],
-        &[0x00, 0x00, 0x00, 0x01, 0x02],
-        &[0x00, 0x00, 0x02, 0xAA],
-    ] {
+        input(&[], &several),
+    ]
+}
+
+/// A record of three objects, cut at every place.
+const OBJECTS: [u8; 16] = [
+    0x5A, 0x01, 0xAA, 0x5F, 0x24, 0x03, 0x26, 0x10, 0x09, 0xDF, 0x81, 0x01, 0x82, 0x00, 0x01, 0xBB,
+];
+
+/// What stands behind the header of a command, in every case and next to one.
+const BODIES: [&[u8]; 13] = [
+    &[],
+    &[0x00],
+    &[0x07],
+    &[0x00, 0x05],
+    &[0x02, 0xAA],
+    &[0x01, 0xAA],
+    &[0x01, 0xAA, 0x00],
+    &[0x00, 0x00, 0x00],
+    &[0x00, 0x00, 0x01],
+    &[0x00, 0x00, 0x01, 0xAA],
+    &[0x00, 0x00, 0x01, 0xAA, 0x00, 0x00],
+    &[0x00, 0x00, 0x00, 0x01, 0x02],
+    &[0x00, 0x00, 0x02, 0xAA],
+];
+
+/// The example, and inputs at the edges of its form, its records and its commands.
+pub fn named() -> Vec<Vec<u8>> {
+    let mut all = vec![EXAMPLE.to_vec()];
+    all.extend(edges_of_form());
+    all.extend(edges_of_records());
+    all.extend((0..=OBJECTS.len()).map(|n| only(&OBJECTS[..n])));
+    for body in BODIES {
         all.push(one(&[&[0x00, 0xB0, 0x00, 0x00], body].concat()));
         all.push(one(&[&[0xFF, 0xB0, 0x00, 0x00], body].concat()));
     }
