@@ -169,58 +169,67 @@ pub fn some_asked(inputs: &mut Inputs) -> Asked {
     }
 }
 
-pub fn record(file: &mut File, inputs: &mut Inputs) {
-    let none = &Text::none();
+fn add_build(file: &mut File, asked: &Asked, data: &Text) {
+    let answer = build(asked, &data.bytes);
+    file.add(BUILD, [data, &Text::none()], &asked.numbers(), answer);
+}
+
+fn add_force(file: &mut File, asked: &Asked, data: &Text) {
+    let answer = force(asked, &data.bytes);
+    file.add(FORCE, [data, &Text::none()], &asked.numbers(), answer);
+}
+
+/// A builder with data and an expected length at a boundary; some of them forced and compared.
+fn at_boundary(file: &mut File, inputs: &mut Inputs, (len, le, mode): (usize, usize, u8)) {
+    let data = Text::some(inputs, len);
+    let asked = Asked {
+        le,
+        mode,
+        ..some_asked(inputs)
+    };
+    add_build(file, &asked, &data);
+    let turn = len + le + usize::from(mode);
+    if turn % 4 == 0 {
+        add_force(file, &asked, &data);
+    }
+    if len <= 65_535 && turn % 3 == 0 {
+        comparisons(file, inputs, asked, &data);
+    }
+}
+
+fn boundaries(file: &mut File, inputs: &mut Inputs) {
     for len in LENGTHS {
         for le in EXPECTED {
             for mode in 0..3 {
-                let data = Text::some(inputs, len);
-                let asked = Asked {
-                    le,
-                    mode,
-                    ..some_asked(inputs)
-                };
-                file.add(
-                    BUILD,
-                    [&data, none],
-                    &asked.numbers(),
-                    build(&asked, &data.bytes),
-                );
-                if (len + le + usize::from(mode)) % 4 == 0 {
-                    file.add(
-                        FORCE,
-                        [&data, none],
-                        &asked.numbers(),
-                        force(&asked, &data.bytes),
-                    );
-                }
-                if len <= 65_535 && (len + le + usize::from(mode)) % 3 == 0 {
-                    comparisons(file, inputs, asked, &data);
-                }
+                at_boundary(file, inputs, (len, le, mode));
             }
         }
     }
+}
+
+/// Any builders, long ones among them.
+fn any(file: &mut File, inputs: &mut Inputs) {
     for _ in 0..150 {
         let asked = some_asked(inputs);
         let most = if inputs.below(8) == 0 { 65_536 } else { 600 };
         let len = inputs.below(most);
         let data = Text::some(inputs, len);
-        file.add(
-            BUILD,
-            [&data, none],
-            &asked.numbers(),
-            build(&asked, &data.bytes),
-        );
-        file.add(
-            FORCE,
-            [&data, none],
-            &asked.numbers(),
-            force(&asked, &data.bytes),
-        );
+        add_build(file, &asked, &data);
+        add_force(file, &asked, &data);
     }
+}
+
+/// Any builders beside commands of every case.
+fn beside_commands(file: &mut File, inputs: &mut Inputs) {
     for apdu in commands(inputs) {
         let (asked, data) = (some_asked(inputs), Text::some(inputs, 3));
         let answer = equal(&asked, &data.bytes, &apdu.bytes);
         file.add(EQUAL, [&data, &apdu], &asked.numbers(), answer);
     }
+}
+
+pub fn record(file: &mut File, inputs: &mut Inputs) {
+    boundaries(file, inputs);
+    any(file, inputs);
+    beside_commands(file, inputs);
 }

@@ -260,7 +260,8 @@ fn some_path(inputs: &mut Inputs, paths: &[Path]) -> Path {
     path
 }
 
-fn lookups(file: &mut File, inputs: &mut Inputs) {
+/// Objects in objects, some of them damaged, and a path for each.
+fn nested_lookups(file: &mut File, inputs: &mut Inputs) {
     for i in 0..600 {
         let (bytes, paths) = nested(inputs, 1 + i % 5);
         let path = some_path(inputs, &paths);
@@ -271,15 +272,21 @@ fn lookups(file: &mut File, inputs: &mut Inputs) {
         let bytes = &bytes[..bytes.len().min(250)];
         add_lookup(file, &Text::of(bytes), &path);
     }
-    // Many small objects, and the one that is asked for behind them; a value as long as there can be.
-    for (len, first) in [
-        (7, 5),
-        (700, 5),
-        (65_002, 5),
-        (64_999, 2),
-        (65_530, 0),
-        (601, 5),
-    ] {
+}
+
+/// Rows of one byte, which are small objects: how many bytes, and the byte.
+const FILLINGS: [(usize, u8); 6] = [
+    (7, 5),
+    (700, 5),
+    (65_002, 5),
+    (64_999, 2),
+    (65_530, 0),
+    (601, 5),
+];
+
+/// Many small objects, and the one that is asked for behind them.
+fn lookups_behind(file: &mut File) {
+    for (len, first) in FILLINGS {
         let filling = Filling {
             len,
             first,
@@ -296,6 +303,10 @@ fn lookups(file: &mut File, inputs: &mut Inputs) {
             add_lookup(file, &text, path);
         }
     }
+}
+
+/// A value as long as there can be, and shorter ones.
+fn long_lookups(file: &mut File, inputs: &mut Inputs) {
     for len in [127, 255, 300, 65_534, 65_535] {
         let [_, high, low] = three(len);
         let value = Text::some(inputs, len);
@@ -307,45 +318,42 @@ fn lookups(file: &mut File, inputs: &mut Inputs) {
     }
 }
 
+/// Tags to write.
+const WRITTEN: [[u8; 3]; 14] = [
+    [0x00, 0x00, 0x00],
+    [0x00, 0x00, 0x01],
+    [0x00, 0x00, 0x5A],
+    [0x00, 0x00, 0x1F],
+    [0x00, 0x5F, 0x24],
+    [0x00, 0x5F, 0x00],
+    [0x00, 0xFF, 0xFF],
+    [0x00, 0x5F, 0x80],
+    [0x5F, 0x24, 0x00],
+    [0x5F, 0x00, 0x00],
+    [0x01, 0x00, 0x00],
+    [0xDF, 0x81, 0x01],
+    [0x1F, 0x00, 0x01],
+    [0xFF, 0xFF, 0xFF],
+];
+
+/// A tag and any value of so many bytes, written.
+fn add_write(file: &mut File, inputs: &mut Inputs, tag: [u8; 3], len: usize) {
+    let value = Text::some(inputs, len);
+    let answer = write(tag, &value.bytes);
+    file.add(WRITE, [&value, &Text::none()], &tag, answer);
+}
+
 fn writing(file: &mut File, inputs: &mut Inputs) {
-    let tags: [[u8; 3]; 14] = [
-        [0x00, 0x00, 0x00],
-        [0x00, 0x00, 0x01],
-        [0x00, 0x00, 0x5A],
-        [0x00, 0x00, 0x1F],
-        [0x00, 0x5F, 0x24],
-        [0x00, 0x5F, 0x00],
-        [0x00, 0xFF, 0xFF],
-        [0x00, 0x5F, 0x80],
-        [0x5F, 0x24, 0x00],
-        [0x5F, 0x00, 0x00],
-        [0x01, 0x00, 0x00],
-        [0xDF, 0x81, 0x01],
-        [0x1F, 0x00, 0x01],
-        [0xFF, 0xFF, 0xFF],
-    ];
     for n in [
         0, 1, 2, 5, 20, 126, 127, 128, 254, 255, 256, 257, 600, 65_534, 65_535, 65_536, 65_537,
         65_540,
     ] {
-        for tag in tags {
-            let value = Text::some(inputs, n);
-            file.add(
-                WRITE,
-                [&value, &Text::none()],
-                &tag,
-                write(tag, &value.bytes),
-            );
+        for tag in WRITTEN {
+            add_write(file, inputs, tag, n);
         }
         for _ in 0..4 {
             let tag = [inputs.byte(), inputs.byte(), inputs.byte()];
-            let value = Text::some(inputs, n);
-            file.add(
-                WRITE,
-                [&value, &Text::none()],
-                &tag,
-                write(tag, &value.bytes),
-            );
+            add_write(file, inputs, tag, n);
         }
     }
 }
@@ -354,6 +362,8 @@ pub fn record(file: &mut File, inputs: &mut Inputs) {
     tags(file, inputs);
     lengths(file, inputs);
     objects(file, inputs);
-    lookups(file, inputs);
+    nested_lookups(file, inputs);
+    lookups_behind(file);
+    long_lookups(file, inputs);
     writing(file, inputs);
 }
