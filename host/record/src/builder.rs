@@ -1,14 +1,13 @@
 //! Builders: data and expected lengths around each boundary in the three modes; extended lengths forced; comparisons with commands that
 //! are equal or nearly. `opened` makes those that are short only, and shows a builder's fields.
 
-use std::panic::{self, AssertUnwindSafe};
-
 use opened::command::class::Class;
 use opened::command::{fields, short_only, CommandBuilder, CommandView, ExpectedLen};
 
 use crate::command::{commands, refused};
 use crate::file::{three, Answer, File, Text};
 use crate::inputs::Inputs;
+use crate::panics::unless_it_panics;
 
 const BUILD: u8 = 14;
 const FORCE: u8 = 15;
@@ -21,15 +20,6 @@ pub const LENGTHS: [usize; 17] = [
     0, 1, 2, 3, 5, 20, 21, 254, 255, 256, 257, 600, 65_524, 65_534, 65_535, 65_536, 65_540,
 ];
 pub const EXPECTED: [usize; 10] = [0, 1, 2, 255, 256, 257, 258, 65_534, 65_535, MAX];
-
-/// What a call gives; nothing where it panics, which is not printed.
-pub fn unless_it_panics<T>(call: impl FnOnce() -> T) -> Option<T> {
-    let hook = panic::take_hook();
-    panic::set_hook(Box::new(|_| {}));
-    let done = panic::catch_unwind(AssertUnwindSafe(call));
-    panic::set_hook(hook);
-    done.ok()
-}
 
 /// A builder that is asked for, without its data.
 #[derive(Clone, Copy)]

@@ -6,6 +6,8 @@ mod class;
 mod command;
 mod file;
 mod inputs;
+#[path = "../../comparison/src/panics.rs"]
+mod panics;
 mod splitter;
 mod tlv;
 
@@ -19,6 +21,7 @@ fn main() {
         eprintln!("usage: record FILE");
         process::exit(2);
     };
+    panics::quiet_where_asked();
     let mut file = File::default();
     let mut inputs = Inputs::new(7816);
     class::record(&mut file);

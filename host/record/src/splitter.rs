@@ -3,9 +3,10 @@
 use opened::command::class::Class;
 use opened::command::CommandBuilder;
 
-use crate::builder::{bytes, some_asked, told, unless_it_panics, Asked, EXPECTED, LENGTHS};
+use crate::builder::{bytes, some_asked, told, Asked, EXPECTED, LENGTHS};
 use crate::file::{checksum, three, Answer, File, Text};
 use crate::inputs::Inputs;
+use crate::panics::unless_it_panics;
 
 const STEP: u8 = 17;
 const CHAIN: u8 = 18;
