@@ -125,23 +125,25 @@ impl<'a> Walker<'a> {
         self.out.push_str(&format!(" crate::hit({n}); "));
     }
 
-    /// Writes tokens as they are.
-    fn copy(&mut self, from: usize, to: usize) {
+    /// Writes tokens as they are; behind them.
+    fn copy(&mut self, from: usize, to: usize) -> usize {
         for token in &self.tokens[from..to] {
             // Comments about the whole file could stand only at the front of it.
             self.out.push_str(&token.before.replace("//!", "//"));
             self.out.push_str(token.text);
         }
+        to
     }
 
     /// The same, with the functions that stand for the constants called instead.
-    fn copy_constant(&mut self, from: usize, to: usize) {
+    fn copy_constant(&mut self, from: usize, to: usize) -> usize {
         for i in from..to {
             self.copy(i, i + 1);
             if self.constant.contains(self.at(i)) && self.at(i + 1) == "(" {
                 self.out.push_str(FOR_CONSTANTS);
             }
         }
+        to
     }
 
     /// Writes the block at `i`, counted; behind it.
@@ -181,15 +183,11 @@ impl<'a> Walker<'a> {
         match (self.at(i), self.at(i + 1)) {
             ("#", "[") => self.attribute(i),
             (word, "!") if word.starts_with(|c: char| c.is_alphabetic()) => {
-                let end = self.behind(i + 2);
-                self.copy(i, end);
-                end
+                self.copy(i, self.behind(i + 2))
             }
             ("const", "fn") => self.constant_function(i, previous == "pub"),
             ("const", _) if previous != "<" && previous != "," => {
-                let end = self.find(i, &[";"]);
-                self.copy_constant(i, end);
-                end
+                self.copy_constant(i, self.find(i, &[";"]))
             }
             ("impl", _) => self.implementation(i),
             ("fn", name) if name != "(" => self.function(i),
@@ -199,25 +197,27 @@ impl<'a> Walker<'a> {
                 self.block(i + 1, format!("else: {}", self.line(i)))
             }
             ("match", _) => self.arms(i),
-            ("for" | "while" | "loop", _) => {
-                let body = self.find(i + 1, &["{"]);
-                self.copy(i, i + 1);
-                self.walk(i + 1, body);
-                self.block(body, self.text(i, body))
-            }
+            ("for" | "while" | "loop", _) => self.iteration(i),
             ("|" | "||", _) if matches!(previous, "(" | "," | "=" | "=>" | "move" | "{" | ";") => {
                 self.closure(i)
             }
-            ("?", _) if previous != "+" && previous != ":" => {
-                let n = self.branch(i, format!("? leaves: {}", self.line(i)));
-                self.out.push_str(&format!(".early({n})?"));
-                i + 1
-            }
-            _ => {
-                self.copy(i, i + 1);
-                i + 1
-            }
+            ("?", _) if previous != "+" && previous != ":" => self.early(i),
+            _ => self.copy(i, i + 1),
         }
+    }
+
+    fn iteration(&mut self, i: usize) -> usize {
+        let body = self.find(i + 1, &["{"]);
+        self.copy(i, i + 1);
+        self.walk(i + 1, body);
+        self.block(body, self.text(i, body))
+    }
+
+    /// A `?`, whose leaving is counted.
+    fn early(&mut self, i: usize) -> usize {
+        let n = self.branch(i, format!("? leaves: {}", self.line(i)));
+        self.out.push_str(&format!(".early({n})?"));
+        i + 1
     }
 
     /// An attribute; what is there on a condition (tests, features that are not here) is left as it is.
@@ -231,8 +231,7 @@ impl<'a> Walker<'a> {
                 end + 1
             };
         }
-        self.copy(i, end);
-        end
+        self.copy(i, end)
     }
 
     fn implementation(&mut self, i: usize) -> usize {
@@ -276,10 +275,7 @@ impl<'a> Walker<'a> {
         self.walk(i + 1, body);
         let end = self.block(body, text.clone());
         match (self.at(end), self.at(end + 1)) {
-            ("else", "if") => {
-                self.copy(end, end + 1);
-                end + 1
-            }
+            ("else", "if") => self.copy(end, end + 1),
             ("else", _) => {
                 self.copy(end, end + 1);
                 self.block(end + 1, format!("else of {text}"))
@@ -313,12 +309,10 @@ impl<'a> Walker<'a> {
                 }
             };
             if self.at(i) == "," {
-                self.copy(i, i + 1);
-                i += 1;
+                i = self.copy(i, i + 1);
             }
         }
-        self.copy(end - 1, end);
-        end
+        self.copy(end - 1, end)
     }
 
     fn closure(&mut self, i: usize) -> usize {
