@@ -43,28 +43,37 @@ fn around_the_end(tally: &mut Tally, inputs: &mut Inputs, asked: &Asked, before:
     }
 }
 
-/// Held against commands that are equal, that differ in one field, and that are refused.
-fn every_comparison(tally: &mut Tally, inputs: &mut Inputs, asked: &Asked) {
+/// Commands that are equal to one to build: its own bytes, in which Le is lowered and Max is 65,536; then its fields in both forms.
+fn equal(asked: &Asked, ne: u32) -> Vec<Vec<u8>> {
     let &Asked {
         header, le, data, ..
     } = asked;
-    let n = data.len();
-    let ne = model::compared(le);
-    // Its own bytes, in which Le is lowered and Max is 65,536; then its fields in both forms.
     let mut apdus = vec![model::command(header, le, asked.mode, data)];
     for mode in [EXTENDED_SUPPORTED, EXTENDED_FORCED] {
         apdus.push(model::command(header, ne, mode, data));
     }
-    let form = 1 + inputs.below(2) as u8;
+    apdus
+}
+
+/// Commands with another header or another expected length.
+fn other_numbers(inputs: &mut Inputs, asked: &Asked, (ne, form): (u32, u8)) -> Vec<Vec<u8>> {
+    let &Asked { header, data, .. } = asked;
+    let mut apdus = vec![];
     for i in 0..4 {
         let mut other = header;
         other[i] ^= 1 + inputs.below(255) as u8;
         apdus.push(model::command(other, ne, form, data));
     }
     let lengths = [ne.saturating_sub(1), ne + 1, 0, 256, 65_535, EXPECTED_MAX];
-    for other in lengths {
-        apdus.push(model::command(header, other, form, data));
-    }
+    apdus.extend(lengths.map(|other| model::command(header, other, form, data)));
+    apdus
+}
+
+/// Commands with other data.
+fn other_data(inputs: &mut Inputs, asked: &Asked, (ne, form): (u32, u8)) -> Vec<Vec<u8>> {
+    let &Asked { header, data, .. } = asked;
+    let n = data.len();
+    let mut apdus = vec![];
     if n > 0 {
         for at in [0, inputs.below(n), n - 1] {
             let mut other = data.to_vec();
@@ -73,8 +82,7 @@ fn every_comparison(tally: &mut Tally, inputs: &mut Inputs, asked: &Asked) {
         }
         apdus.push(model::command(header, ne, form, &data[1..]));
         apdus.push(model::command(header, ne, form, &data[..n - 1]));
-    }
-    if n == 0 {
+    } else {
         // An extended Lc of zero, which the crate's reading takes.
         let [.., high, low] = ne.to_be_bytes();
         apdus.push([&header[..], &[0, 0, 0, high, low]].concat());
@@ -83,6 +91,16 @@ fn every_comparison(tally: &mut Tally, inputs: &mut Inputs, asked: &Asked) {
         let longer = [data, &[inputs.number() as u8]].concat();
         apdus.push(model::command(header, ne, form, &longer));
     }
+    apdus
+}
+
+/// Held against commands that are equal, that differ in one field, and that are refused.
+fn every_comparison(tally: &mut Tally, inputs: &mut Inputs, asked: &Asked) {
+    let ne = model::compared(asked.le);
+    let mut apdus = equal(asked, ne);
+    let form = 1 + inputs.below(2) as u8;
+    apdus.extend(other_numbers(inputs, asked, (ne, form)));
+    apdus.extend(other_data(inputs, asked, (ne, form)));
     apdus.push(inputs.damaged(&apdus[1]));
     apdus.push(REFUSED[inputs.below(REFUSED.len())].to_vec());
     for apdu in &apdus {
