@@ -120,49 +120,75 @@ impl Asked<'_> {
     }
 }
 
+/// How many data bytes: few mostly, and now and then about as many as there can be.
+fn some_len(inputs: &mut Inputs, turn: usize) -> usize {
+    let most = match turn % 300 {
+        0 => 65_540,
+        n if n < 30 => 3_000,
+        _ => 700,
+    };
+    match inputs.below(5) {
+        0..=2 if most > 65_535 => most - inputs.below(9),
+        0 => most - inputs.below(9),
+        _ => inputs.below(most),
+    }
+}
+
+/// A header: of a chain that can be, mostly, or of one that is refused or ends early.
+fn any_header(inputs: &mut Inputs) -> [u8; 4] {
+    let mut header = some_header(inputs);
+    match inputs.below(12) {
+        0 => header[0] = 0xFF,
+        1 => header[0] = 0xEF,
+        2..=3 => (),
+        _ => header[0] &= !model::BIT,
+    }
+    header
+}
+
+/// The most bytes of a piece, and how many are lent for one.
+fn some_piece_lengths(inputs: &mut Inputs) -> (usize, usize) {
+    let available = match inputs.below(6) {
+        0 => inputs.below(12),
+        1 => 10,
+        2 => 10 + inputs.below(60),
+        3 => inputs.below(70_000),
+        _ => BUFFER_LEN,
+    };
+    let longest = available.min(BUFFER_LEN);
+    let buffer_len = match inputs.below(6) {
+        0 => around(inputs, longest),
+        _ => longest + inputs.below(4),
+    };
+    (available, buffer_len)
+}
+
+/// How many bytes are lent for the data.
+fn some_room_len(inputs: &mut Inputs, n: usize) -> usize {
+    match inputs.below(5) {
+        0 => around(inputs, n),
+        _ => n + inputs.below(4),
+    }
+}
+
+fn some_le(inputs: &mut Inputs) -> u16 {
+    match inputs.below(3) {
+        0 => 0,
+        1 => inputs.below(258) as u16,
+        _ => inputs.number() as u16,
+    }
+}
+
 pub fn compare(tally: &mut Tally, inputs: &mut Inputs, turns: Range<usize>) {
     for turn in turns {
-        let most = match turn % 300 {
-            0 => 65_540,
-            n if n < 30 => 3_000,
-            _ => 700,
-        };
-        let n = match inputs.below(5) {
-            0..=2 if most > 65_535 => most - inputs.below(9),
-            0 => most - inputs.below(9),
-            _ => inputs.below(most),
-        };
-        let mut header = some_header(inputs);
-        match inputs.below(12) {
-            0 => header[0] = 0xFF,
-            1 => header[0] = 0xEF,
-            2..=3 => (),
-            _ => header[0] &= !model::BIT,
-        }
-        let available = match inputs.below(6) {
-            0 => inputs.below(12),
-            1 => 10,
-            2 => 10 + inputs.below(60),
-            3 => inputs.below(70_000),
-            _ => BUFFER_LEN,
-        };
-        let buffer_len = match inputs.below(6) {
-            0 => around(inputs, available.min(BUFFER_LEN)),
-            _ => available.min(BUFFER_LEN) + inputs.below(4),
-        };
-        let room_len = match inputs.below(5) {
-            0 => around(inputs, n),
-            _ => n + inputs.below(4),
-        };
+        let n = some_len(inputs, turn);
+        let header = any_header(inputs);
+        let (available, buffer_len) = some_piece_lengths(inputs);
+        let room_len = some_room_len(inputs, n);
         let data = inputs.bytes(n);
-        let le = match inputs.below(3) {
-            0 => 0,
-            1 => inputs.below(258) as u16,
-            _ => inputs.number() as u16,
-        };
         let asked = Asked {
             header,
-            le,
+            le: some_le(inputs),
             data: &data,
             available,
         };
