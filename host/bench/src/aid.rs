@@ -1,10 +1,10 @@
 //! The AID: a call makes it of a name, then asks it. Both sides make it in each call, save in the line `made before`, where the Rust
 //! asks one that it has; ours keeps none.
 
-use gorvisclen::{Refused, Reply, AID_NUMBERS, NONE};
+use gorvisclen::{AID_NUMBERS, NONE};
 use original::aid::{Aid, Category, FromSliceError};
 
-use crate::rounds::{check, round, NO_LIMIT};
+use crate::rounds::{check, round, told, NO_LIMIT};
 use crate::Lines;
 
 /// The most bytes of an AID.
@@ -132,14 +132,6 @@ fn part_by_rust(sample: &Sample, (out, to): &mut Lent) -> u8 {
             0
         }
         Err(error) => number(error),
-    }
-}
-
-#[inline(always)]
-fn told(reply: Reply) -> u8 {
-    match reply {
-        Ok(()) => 0,
-        Err(Refused(number)) => number,
     }
 }
 

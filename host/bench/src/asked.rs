@@ -1,14 +1,12 @@
 //! What a command to build is asked: its length, whether it equals a command that is parsed, and one step of splitting. Both sides make
 //! the builder in each call. The Rust's step gives two builders, ours the numbers in which they differ from the one.
 
-use gorvisclen::{Refused, Reply, BUFFER_LEN, EXTENDED_FORCED, EXTENDED_SUPPORTED, SPLIT_NUMBERS};
+use gorvisclen::{BUFFER_LEN, EXTENDED_FORCED, EXTENDED_SUPPORTED, SPLIT_NUMBERS};
 use original::command::class::Class;
 use original::command::{CommandBuilder, CommandView, ExpectedLen};
 
-use crate::rounds::{check, round, NO_LIMIT};
+use crate::rounds::{check, round, told, HEADER, NO_LIMIT};
 use crate::Lines;
-
-const HEADER: [u8; 4] = [0x00, 0xDB, 0x3F, 0xFF];
 
 type Out = [u64; SPLIT_NUMBERS];
 
@@ -54,14 +52,6 @@ impl Sample {
             EXTENDED_FORCED => made.force_extended(),
             _ => made,
         })
-    }
-}
-
-#[inline(always)]
-fn told(reply: Reply) -> u8 {
-    match reply {
-        Ok(()) => 0,
-        Err(Refused(number)) => number,
     }
 }
 

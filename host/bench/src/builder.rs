@@ -5,10 +5,11 @@ use std::hint::black_box;
 use std::process;
 use std::time::Instant;
 
-use gorvisclen::{Refused, EXTENDED_FORCED, EXTENDED_SUPPORTED};
+use gorvisclen::{EXTENDED_FORCED, EXTENDED_SUPPORTED};
 use original::command::class::Class;
 use original::command::CommandBuilder;
 
+use crate::rounds::{told, HEADER};
 use crate::Lines;
 
 /// How many calls a round makes that writes no data; one that writes many makes less.
@@ -82,10 +83,15 @@ fn by_rust(builder: &CommandBuilder<&[u8]>, buffer: &mut [u8], out: &mut Out) ->
 #[inline(always)]
 fn by_ours(sample: &Sample, buffer: &mut [u8], out: &mut Out) -> u8 {
     let (le, data) = (sample.le.into(), &sample.data);
-    match gorvisclen::serialize_into(sample.header, le, sample.mode, data, buffer, 0, out) {
-        Ok(()) => 0,
-        Err(Refused(number)) => number,
-    }
+    told(gorvisclen::serialize_into(
+        sample.header,
+        le,
+        sample.mode,
+        data,
+        buffer,
+        0,
+        out,
+    ))
 }
 
 /// The nanoseconds that a call takes in one round.
@@ -120,7 +126,7 @@ pub fn time(lines: &mut Lines) {
             for (le, with) in [(0, ""), (256, ", Le")] {
                 let name = format!("write {of_mode}, {words}{with}");
                 let sample = Sample {
-                    header: [0x00, 0xDB, 0x3F, 0xFF],
+                    header: HEADER,
                     le,
                     mode,
                     data: vec![0xAA; n],

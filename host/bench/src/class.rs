@@ -1,10 +1,10 @@
 //! The class of a byte: a call makes it and gives by numbers what it is. The Rust gives the 8 numbers that it has; ours gives these and
 //! the 3 of the standard's reading.
 
-use gorvisclen::{Refused, CLASS_NUMBERS, NONE};
+use gorvisclen::{CLASS_NUMBERS, NONE};
 use original::command::class::{Chain, Class, Interindustry, Range, SecureMessaging};
 
-use crate::rounds::{check, round, NO_LIMIT};
+use crate::rounds::{check, round, told, NO_LIMIT};
 use crate::Lines;
 
 type Out = [u64; CLASS_NUMBERS];
@@ -78,26 +78,18 @@ fn range_by_rust(&cla: &u8, out: &mut Out) -> u8 {
 }
 
 #[inline(always)]
-fn number(reply: gorvisclen::Reply) -> u8 {
-    match reply {
-        Ok(()) => 0,
-        Err(Refused(number)) => number,
-    }
-}
-
-#[inline(always)]
 fn by_ours(&cla: &u8, out: &mut Out) -> u8 {
-    number(gorvisclen::class(cla, out))
+    told(gorvisclen::class(cla, out))
 }
 
 #[inline(always)]
 fn chained_by_ours(&cla: &u8, out: &mut Out) -> u8 {
-    number(gorvisclen::class_as_chained(cla, out))
+    told(gorvisclen::class_as_chained(cla, out))
 }
 
 #[inline(always)]
 fn range_by_ours(&cla: &u8, out: &mut Out) -> u8 {
-    number(gorvisclen::range(cla, out))
+    told(gorvisclen::range(cla, out))
 }
 
 /// Checks the two sides on these bytes, without the standard's reading, then times them.

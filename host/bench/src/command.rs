@@ -4,9 +4,10 @@ use std::hint::black_box;
 use std::process;
 use std::time::Instant;
 
-use gorvisclen::{Refused, COMMAND_NUMBERS, CRATE_READING};
+use gorvisclen::{COMMAND_NUMBERS, CRATE_READING};
 use original::command::{CommandView, FromSliceError};
 
+use crate::rounds::{told, HEADER};
 use crate::Lines;
 
 /// How many calls a round makes, or a few less.
@@ -21,9 +22,8 @@ type Out = [u64; COMMAND_NUMBERS];
 type Sample = (&'static str, &'static str, Vec<u8>);
 
 fn samples() -> Vec<Sample> {
-    let header = [0x00, 0xDB, 0x3F, 0xFF];
     let data = vec![0xAA; 65_535];
-    let body = |parts: &[&[u8]]| [&header[..], &parts.concat()].concat();
+    let body = |parts: &[&[u8]]| [&HEADER[..], &parts.concat()].concat();
     let of_class_ff = [0xFF, 0xA4, 0x04, 0x00].to_vec();
     vec![
         ("short", "case 1", body(&[])),
@@ -50,7 +50,7 @@ fn samples() -> Vec<Sample> {
             "case 4E, 65,535 bytes",
             body(&[&[0, 255, 255], &data, &[0, 0]]),
         ),
-        ("refused", "1, under 4 bytes", header[..3].to_vec()),
+        ("refused", "1, under 4 bytes", HEADER[..3].to_vec()),
         ("refused", "3, class FF", of_class_ff),
         ("refused", "4, a byte too few", body(&[&[16], &data[..15]])),
         (
@@ -88,10 +88,7 @@ fn by_rust(apdu: &[u8], out: &mut Out) -> u8 {
 
 #[inline(always)]
 fn by_ours(apdu: &[u8], out: &mut Out) -> u8 {
-    match gorvisclen::command(CRATE_READING, apdu, out) {
-        Ok(()) => 0,
-        Err(Refused(number)) => number,
-    }
+    told(gorvisclen::command(CRATE_READING, apdu, out))
 }
 
 /// The nanoseconds that a call takes in one round over the commands.

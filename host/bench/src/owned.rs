@@ -6,10 +6,10 @@
 use std::hint::black_box;
 use std::time::Instant;
 
-use gorvisclen::{Refused, Reply, CRATE_READING, OWNED_NUMBERS};
+use gorvisclen::{CRATE_READING, OWNED_NUMBERS};
 use original::command::{Command, CommandView, FromSliceError};
 
-use crate::rounds::{check, round, NO_LIMIT};
+use crate::rounds::{check, round, told, HEADER, NO_LIMIT};
 use crate::Lines;
 
 /// How many pieces a held command is extended by, one after the other.
@@ -30,7 +30,7 @@ fn apdu(n: usize) -> Vec<u8> {
         0..=255 => (vec![n as u8], vec![0]),
         _ => (vec![0, (n >> 8) as u8, n as u8], vec![0, 0]),
     };
-    [&[0x00, 0xDB, 0x3F, 0xFF], &lc[..], &data, &le].concat()
+    [&HEADER, &lc[..], &data, &le].concat()
 }
 
 fn number(error: FromSliceError) -> u8 {
@@ -40,14 +40,6 @@ fn number(error: FromSliceError) -> u8 {
         FromSliceError::InvalidClass => 3,
         FromSliceError::InvalidFirstBodyByteForExtended => 4,
         FromSliceError::InvalidSliceLength => 5,
-    }
-}
-
-#[inline(always)]
-fn told(reply: Reply) -> u8 {
-    match reply {
-        Ok(()) => 0,
-        Err(Refused(number)) => number,
     }
 }
 
@@ -142,7 +134,7 @@ fn best(once: impl Fn() -> f64) -> f64 {
 }
 
 fn none_held<const N: usize>() -> Box<Command<N>> {
-    Box::new(Command::try_from(&[0x00, 0xDB, 0x3F, 0xFF]).unwrap())
+    Box::new(Command::try_from(&HEADER).unwrap())
 }
 
 fn extended_by_rust<const N: usize>(piece: &[u8], held: &mut Command<N>) -> f64 {

@@ -8,6 +8,7 @@ use std::time::Instant;
 use gorvisclen::{Pieces, Reassembler, Refused, BUFFER_LEN, JOIN_NUMBERS, PIECE_NUMBERS};
 use original::command::{Command, CommandView};
 
+use crate::rounds::HEADER;
 use crate::Lines;
 
 /// The most that ours may take of the Rust's time.
@@ -18,8 +19,6 @@ const CALLS: usize = 8;
 
 /// How many data bytes are joined, and the room.
 const LEN: usize = 65_535;
-
-const HEADER: [u8; 4] = [0x00, 0xDB, 0x3F, 0xFF];
 
 type Held = Command<LEN>;
 

@@ -6,10 +6,11 @@ use std::hint::black_box;
 use std::process;
 use std::time::Instant;
 
-use gorvisclen::{Pieces, Refused, BUFFER_LEN, PIECE_NUMBERS};
+use gorvisclen::{Pieces, Reply, BUFFER_LEN, PIECE_NUMBERS};
 use original::command::class::Class;
 use original::command::CommandBuilder;
 
+use crate::rounds::{told, HEADER};
 use crate::Lines;
 
 /// The most that ours may take of the Rust's time.
@@ -17,8 +18,6 @@ const MOST: f64 = 1.10;
 
 /// How many data bytes a round cuts, or a few more.
 const BYTES: usize = 70_000;
-
-const HEADER: [u8; 4] = [0x00, 0xDB, 0x3F, 0xFF];
 
 /// How many data bytes, in numbers and in words: about the longest, a tenth and a hundredth of it.
 const LENGTHS: [(usize, &str); 3] = [
@@ -66,7 +65,7 @@ fn by_rust(sample: &Sample, buffer: &mut [u8], out: &mut Out) -> u8 {
 }
 
 /// Ours, by the functions that are exported.
-fn pieces(sample: &Sample, buffer: &mut [u8], out: &mut Out) -> Result<(), Refused> {
+fn pieces(sample: &Sample, buffer: &mut [u8], out: &mut Out) -> Reply {
     let mut chain = Pieces::new_non_extended(HEADER, &sample.data, sample.le, sample.available)?;
     *out = [0, 0];
     while !chain.done {
@@ -81,10 +80,7 @@ fn pieces(sample: &Sample, buffer: &mut [u8], out: &mut Out) -> Result<(), Refus
 
 #[inline(never)]
 fn by_ours(sample: &Sample, buffer: &mut [u8], out: &mut Out) -> u8 {
-    match pieces(sample, buffer, out) {
-        Ok(()) => 0,
-        Err(Refused(number)) => number,
-    }
+    told(pieces(sample, buffer, out))
 }
 
 /// The nanoseconds that a call takes in one round.
