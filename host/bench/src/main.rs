@@ -3,9 +3,9 @@
 //!     bench [--emulated]
 //!
 //! Neither side is inlined into the loop: a call is one call of the Rust's function, or one of what is exported. The sides
-//! alternate round by round, and the best round of each counts. It fails where ours takes more than its limit, a tenth longer
-//! for a command that is read, written or cut, a fifth for one that is joined and half as long again for a lookup, unless it runs
-//! emulated. A line with the limit `inf` has none.
+//! alternate round by round, and the best round of each counts. It fails where ours takes more than its limit, unless it runs
+//! emulated: a tenth longer for a command that is read, cut, or written with at most 256 data bytes; twice as long for one that
+//! is written with more; a fifth longer for one that is joined; half as long again for a lookup. A line with the limit `inf` has none.
 
 mod aid;
 mod asked;
@@ -48,21 +48,18 @@ impl Lines {
     }
 }
 
-fn main() {
+/// Whether it runs emulated; none where the words are not those of the usage.
+fn emulated() -> Option<bool> {
     let words: Vec<String> = env::args().skip(1).collect();
-    let emulated = match words.iter().map(String::as_str).collect::<Vec<_>>()[..] {
-        [] => false,
-        ["--emulated"] => true,
-        _ => {
-            eprintln!("usage: bench [--emulated]");
-            process::exit(2);
-        }
-    };
-    println!("nanoseconds a call, the best of {ROUNDS} rounds");
-    println!(
-        "{:36} {:>10} {:>10} {:>6} {:>6}",
-        "", "rust", "ours", "ratio", "limit"
-    );
+    match words.iter().map(String::as_str).collect::<Vec<_>>()[..] {
+        [] => Some(false),
+        ["--emulated"] => Some(true),
+        _ => None,
+    }
+}
+
+/// The lines of every operation.
+fn time() -> Lines {
     let mut lines = Lines::default();
     class::time(&mut lines);
     aid::time(&mut lines);
@@ -74,6 +71,20 @@ fn main() {
     reassembler::time(&mut lines);
     tlv::time(&mut lines);
     lookup::time(&mut lines);
+    lines
+}
+
+fn main() {
+    let Some(emulated) = emulated() else {
+        eprintln!("usage: bench [--emulated]");
+        process::exit(2);
+    };
+    println!("nanoseconds a call, the best of {ROUNDS} rounds");
+    println!(
+        "{:36} {:>10} {:>10} {:>6} {:>6}",
+        "", "rust", "ours", "ratio", "limit"
+    );
+    let lines = time();
     if emulated {
         println!("emulated: x86-64 code on another machine; the times say nothing, and the ratios little");
     } else {
