@@ -1,4 +1,4 @@
--- Demand 3 of the mission: any list of commands, each cut in short form for its own buffer, comes back from its pieces. Assumes
+-- Demand 3 (docs/PROMISES.md): any list of commands, each cut in short form for its own buffer, comes back from its pieces. Assumes
 -- nothing.
 use Prim.Native.Nat.{ℕ, zero, suc, _+_, _-_, _≤_}
 use mathlib.Core.Path.{_≡_, refl, sym, ap, _∙_}

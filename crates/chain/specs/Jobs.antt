@@ -1,4 +1,4 @@
--- Lists of commands, each cut in short form for a buffer of its own: demand 3 of the mission.
+-- Lists of commands, each cut in short form for a buffer of its own: demand 3 (docs/PROMISES.md).
 use Prim.Native.Nat.{ℕ, _-_, _≤_}
 use mathlib.Core.Path.{_≡_}
 use mathlib.Core.Bool.{Bool, true, false}

@@ -1,4 +1,4 @@
--- Pieces put in that are refused where they stand: demand 3 of the mission.
+-- Pieces put in that are refused where they stand: demand 3 (docs/PROMISES.md).
 use Prim.Native.Nat.{ℕ}
 use mathlib.Core.Path.{_≡_}
 use mathlib.Core.List.{List, [], _∷_}

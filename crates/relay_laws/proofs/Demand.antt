@@ -1,4 +1,4 @@
--- Demand 3 of the mission for `gorvisclen_cut_and_join`: a fair command comes back. Assumes nothing.
+-- Demand 3 (docs/PROMISES.md) for `gorvisclen_cut_and_join`: a fair command comes back. Assumes nothing.
 use Prim.Native.Nat.{ℕ, zero, suc, _+_, _-_, _≤_}
 use mathlib.Core.Path.{_≡_, sym, ap, _∙_}
 use mathlib.Core.List.{List, [], _∷_}

@@ -1,4 +1,4 @@
--- Demand 3 of the mission for the exported call that cuts a command and joins its pieces.
+-- Demand 3 (docs/PROMISES.md) for the exported call that cuts a command and joins its pieces.
 use Prim.Native.Nat.{ℕ, _-_}
 use mathlib.Core.Path.{_≡_}
 use mathlib.Core.List.{List, _∷_}
