@@ -1,4 +1,5 @@
 pub mod Data
+pub mod Cases
 pub mod Lengths
 pub mod Fitting
 pub mod Same

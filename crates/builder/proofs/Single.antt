@@ -7,7 +7,7 @@ use Rattle.basis.specs.Reply.{Reply, is, no}
 use Rattle.basis.proofs.Reply.{apart}
 use Rattle.command.specs.declared.CommandView.{CommandView}
 use Rattle.builder.specs.Builder.{new-is, force-extended-is, said as built-said}
-use Rattle.builder.specs.Bytes.{required-len-is, serialize-into-is, said as length-said}
+use Rattle.builder.specs.Bytes.{lowered-is, required-len-is, serialize-into-is, said as length-said}
 use Rattle.builder.specs.Compare.{eq-is, said as comparison-said}
 use Rattle.builder.specs.declared.ExpectedLen.{ExpectedLen}
 use Rattle.builder.specs.declared.ExtendedLen.{ExtendedLen}
@@ -52,6 +52,9 @@ new c i p q d e m x y g h = apart built-said built-back built-known x y (g ∙�
 module _ (b : CommandBuilder) where
   pub force-extended : (x y : Built) → force-extended-is b x → force-extended-is b y → x ≡ y
   force-extended x y g h = apart built-said built-back built-known x y (g ∙⁻¹ h)
+
+  pub lowered : (x y : CommandBuilder) → lowered-is b x → lowered-is b y → x ≡ y
+  lowered x y g h = g ∙⁻¹ h
 
   pub required-len : (d : List ℕ) (x y : Length) → required-len-is b d x → required-len-is b d y → x ≡ y
   required-len d x y g h = apart length-said length-back length-known x y (g ∙⁻¹ h)

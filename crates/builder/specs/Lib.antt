@@ -1,3 +1,5 @@
 pub mod Builder
+pub mod Cases
 pub mod Bytes
+pub mod Sizes
 pub mod Compare

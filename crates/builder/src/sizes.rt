@@ -1,8 +1,8 @@
 // How many bytes the lengths of a command take, and the command with them.
 ghost use mathlib.Core.Path.{_≡_};
-ghost use mathlib.Core.Bool.{cond};
-ghost use lib.Dec.{leb};
-ghost use Rattle.builder.specs.Bytes.{asked, lowered, isForced, wide, lcSize, leSize, fieldsOf, required-len-is};
+ghost use Rattle.builder.specs.Bytes.{asked, loweredLen, lowered-is, required-len-is};
+ghost use Rattle.builder.specs.Sizes.{isForced, wide, lcSize, leSize, fieldsOf};
+ghost use Rattle.builder.specs.declared.ExtendedLen.the-variants.{Unsupported};
 use crate::CommandBuilder;
 use crate::ExpectedLen;
 use crate::ExtendedLen;
@@ -30,20 +30,28 @@ fn asked(le: ExpectedLen) -> usize
     }
 }
 
-fn at_most_256(e: usize) -> usize
-    ensures { λ r. ⌜ r ≡ cond (leb e 256) e 256 ⌝ }
+fn at_most_256(le: ExpectedLen) -> ExpectedLen
+    ensures { λ r. ⌜ r ≡ loweredLen Unsupported le ⌝ }
 {
-    if e <= 256 { e } else { 256 }
+    match le {
+        ExpectedLen::Ne(n) => {
+            if n <= 256 {
+                return ExpectedLen::Ne(n);
+            }
+            ExpectedLen::Ne(256)
+        }
+        ExpectedLen::Max => ExpectedLen::Ne(256),
+    }
 }
 
-// The expected length as it is shown: at most 256 in short mode.
-fn lowered(mode: ExtendedLen, e: usize) -> usize
-    ensures { λ r. ⌜ r ≡ lowered mode e ⌝ }
+// The expected length that is written: at most 256 in short mode.
+fn lowered_len(mode: ExtendedLen, le: ExpectedLen) -> ExpectedLen
+    ensures { λ r. ⌜ r ≡ loweredLen mode le ⌝ }
 {
     match mode {
-        ExtendedLen::Unsupported => at_most_256(e),
-        ExtendedLen::Supported => e,
-        ExtendedLen::Forced => e,
+        ExtendedLen::Unsupported => at_most_256(le),
+        ExtendedLen::Supported => le,
+        ExtendedLen::Forced => le,
     }
 }
 
@@ -101,7 +109,7 @@ pub(crate) fn sizes(builder: CommandBuilder, n: usize) -> Fields
 {
     let le = builder.le;
     let mode = builder.mode;
-    let shown = lowered(mode, asked(le));
+    let shown = asked(lowered_len(mode, le));
     let extended = wide(mode, n, shown);
     Fields {
         lc: lc_size(extended, n),
@@ -111,6 +119,24 @@ pub(crate) fn sizes(builder: CommandBuilder, n: usize) -> Fields
 }
 
 impl CommandBuilder {
+    // The builder with the expected length that its command shows: at most 256 in short mode.
+    pub fn lowered(self) -> CommandBuilder
+        ensures { λ r. ⌜ lowered-is self r ⌝ }
+    {
+        let class = self.class;
+        let mode = self.mode;
+        let le = self.le;
+        let le = lowered_len(mode, le);
+        CommandBuilder {
+            class,
+            instruction: self.instruction,
+            p1: self.p1,
+            p2: self.p2,
+            le,
+            mode,
+        }
+    }
+
     // The length of the command with these data.
     pub fn required_len(self, data: &[u8]) -> Length
         ensures { λ r. ⌜ required-len-is self (now («data» .entry)) r ⌝ }

@@ -1,9 +1,11 @@
 // The bytes of a command, written into a lent buffer.
 ghost use mathlib.Core.Path.{_≡_};
+ghost use mathlib.Core.List.{_++_};
 ghost use Prim.Native.Nat.{_+_, _≤_};
 ghost use lib.ListN.{length};
-ghost use Rattle.basis.specs.Part.{over, put};
-ghost use Rattle.builder.specs.Bytes.{header, field, laid, Fits, serialize-into-is};
+ghost use Rattle.basis.specs.Part.{over};
+ghost use Rattle.builder.specs.Bytes.{header, serialize-into-is};
+ghost use Rattle.builder.specs.Sizes.{field, laid, Fits};
 use crate::CommandBuilder;
 use crate::sizes::Fields;
 use crate::sizes::Length;
@@ -44,25 +46,24 @@ fn put_field(size: usize, n: usize, to: &mut [u8])
     to[2] = low;
 }
 
-fn put_data(data: &[u8], to: &mut [u8])
-    requires { ⌜ length (now «data») ≤ length (now to) ⌝ }
-    ensures { λ _. ⌜ now (to .exit) ≡ over (now («data» .entry)) (now (to .entry)) ⌝ }
+// Lc of so many bytes, and the data behind it.
+fn put_data(lc: usize, data: &[u8], to: &mut [u8])
+    requires { ⌜ (lc ≤ 3) × (lc + length (now «data») ≤ length (now to)) ⌝ }
+    ensures { λ _. ⌜ now (to .exit) ≡ over (field lc (length (now («data» .entry))) ++ now («data» .entry)) (now (to .entry)) ⌝ }
 {
-    bytes::copy(data, to);
+    put_field(lc, data.len(), to);
+    bytes::copy(data, &mut to[lc..]);
 }
 
-// The four fields of a command that fits, each written into the part that starts at its place.
-fn put_command(builder: CommandBuilder, sizes: Fields, data: &[u8], buffer: &mut [u8], at: usize)
-    requires { ⌜ Fits sizes (length (now «data»)) (length (now buffer)) at ⌝ }
-    ensures { λ _. ⌜ now (buffer .exit) ≡ put at (laid builder sizes (now («data» .entry))) (now (buffer .entry)) ⌝ }
+// A command that fits: header, Lc and data, Le, each written into the part that starts at its place.
+fn put_command(builder: CommandBuilder, sizes: Fields, data: &[u8], to: &mut [u8])
+    requires { ⌜ Fits sizes (length (now «data»)) (length (now to)) ⌝ }
+    ensures { λ _. ⌜ now (to .exit) ≡ over (laid builder sizes (now («data» .entry))) (now (to .entry)) ⌝ }
 {
-    put_header(builder, &mut buffer[at..]);
-    let at_lc = at + 4;
-    put_field(sizes.lc, data.len(), &mut buffer[at_lc..]);
-    let at_data = at_lc + sizes.lc;
-    put_data(data, &mut buffer[at_data..]);
-    let at_le = at_data + data.len();
-    put_field(sizes.le, sizes.shown, &mut buffer[at_le..]);
+    put_header(builder, to);
+    put_data(sizes.lc, data, &mut to[4..]);
+    let at_le = 4 + sizes.lc + data.len();
+    put_field(sizes.le, sizes.shown, &mut to[at_le..]);
 }
 
 impl CommandBuilder {
@@ -82,7 +83,7 @@ impl CommandBuilder {
         if buffer.len() - at < len {
             return Length::Refused(16);
         }
-        put_command(self, sizes, data, buffer, at);
+        put_command(self, sizes, data, &mut buffer[at..]);
         Length::Bytes(len)
     }
 }

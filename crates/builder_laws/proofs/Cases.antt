@@ -1,131 +1,110 @@
--- A builder's command is the one of its case. Assumes nothing.
-use Prim.Native.Nat.{ℕ, zero, suc, _+_, _/_, _%_, _≤_}
+-- Which case is used for how many data bytes and which Le, and what follows for the bytes of Lc and Le. Assumes nothing.
+use Prim.Native.Nat.{ℕ, zero, suc, _+_, _≤_, _<_, zero-le}
 use mathlib.Core.Path.{_≡_, refl}
-use mathlib.Core.Bool.{Bool, true, false, cond}
-use mathlib.Core.List.{List, [], _∷_, _++_, append-nil}
+use mathlib.Core.Bool.{true, false, cond}
 use native.Mathlib.Decide.{decLe}
 use native.Mathlib.Omega.{arith}
-use borrow.Author.Tests.{le-leb, lt-leb, lt-ltb, le-ltb, ne-eqb}
-use lib.Dec.{eqb}
-use lib.ListN.{length, length-append}
-use Rattle.basis.specs.Number.{be}
-use Rattle.builder.specs.Bytes.{isForced, wide, lcSize, leSize, field, leShown, lcLen, leLen, header, commandOf, requiredLen}
+use borrow.Author.Tests.{le-leb, lt-leb, lt-ltb, le-ltb}
+use Rattle.builder.specs.Cases.{Case, case1, case2S, case3S, case4S, case2E, case3E, case4E}
+use Rattle.builder.specs.Cases.{lcBytes, leBytes, unlessForced, withData, afterShort, afterExtended, caseFor}
+use Rattle.builder.specs.Bytes.{leShown, caseOf, lcLen, leLen}
+use Rattle.builder.specs.declared.ExpectedLen.the-variants.{Ne}
 use Rattle.builder.specs.declared.ExtendedLen.{ExtendedLen}
 use Rattle.builder.specs.declared.ExtendedLen.the-variants.{Unsupported, Supported, Forced}
 use Rattle.builder.specs.declared.CommandBuilder.{CommandBuilder}
-use Rattle.builder_laws.specs.Cases.{Case, case1, case2S, case3S, case4S, case2E, case3E, case4E}
-use Rattle.builder_laws.specs.Cases.{coded, two, caseBytes, caseLength, unlessForced, caseFor, afterShort, afterExtended}
-use Rattle.builder_laws.proofs.Read.{narrow}
+use Rattle.builder.proofs.Lengths.{case-few}
 
--- the case by one flag, whether lengths are extended
-abbrev pick : Bool → ℕ → ℕ → Case
-pick w zero zero = case1
-pick w zero (suc e) = cond w case2E case2S
-pick w (suc n) e = cond w (afterExtended e) (afterShort e)
+-- what is known of n data bytes and an Le of e, by the case that is used for them
+abbrev pub Used : Case → ℕ → ℕ → Type 0
+Used case1 n e = (n ≡ 0) × (e ≡ 0)
+Used case2S n e = (n ≡ 0) × (1 ≤ e) × (e ≤ 256)
+Used case3S n e = (1 ≤ n) × (n ≤ 255) × (e ≡ 0)
+Used case4S n e = (1 ≤ n) × (n ≤ 255) × (1 ≤ e) × (e ≤ 256)
+Used case2E n e = (n ≡ 0) × (1 ≤ e)
+Used case3E n e = (1 ≤ n) × (e ≡ 0)
+Used case4E n e = (1 ≤ n) × (1 ≤ e)
 
-unless-forced : (m : ExtendedLen) (x y : Case) → unlessForced m x y ≡ cond (isForced m) y x
-unless-forced Unsupported x y = refl
-unless-forced Supported x y = refl
-unless-forced Forced x y = refl
+-- a choice by the mode
+pub in-mode : (P : Case → Type 0) (m : ExtendedLen) (x y : Case) → ((m ≡ Forced → ⊥) → P x) → (m ≡ Forced → P y)
+    → P (unlessForced m x y)
+in-mode P Unsupported x y h g = h (λ e. let z : _≡_ {A = ℕ} 0 1 = cc in omega arith)
+in-mode P Supported x y h g = h (λ e. let z : _≡_ {A = ℕ} 0 1 = cc in omega arith)
+in-mode P Forced x y h g = g refl
 
-unless-same : (m : ExtendedLen) (x : Case) → unlessForced m x x ≡ x
-unless-same Unsupported x = refl
-unless-same Supported x = refl
-unless-same Forced x = refl
+short-used : (n e : ℕ) → 1 ≤ n → n ≤ 255 → e ≤ 256 → Used (afterShort e) n e
+short-used n zero h g l = (h, g, refl)
+short-used n (suc e) h g l = (h, g, omega arith, l)
 
-picked : (m : ExtendedLen) (n e : ℕ) → caseFor m n e ≡ pick (wide m n e) n e
-unfolding caseFor wide
-picked m zero zero = refl
-picked m zero (suc e) =
+extended-used : (n e : ℕ) → 1 ≤ n → Used (afterExtended e) n e
+extended-used n zero h = (h, refl)
+extended-used n (suc e) h = (h, omega arith)
+
+pub case-used : (m : ExtendedLen) (n e : ℕ) → Used (caseFor m n e) n e
+unfolding caseFor
+case-used m zero zero = (refl, refl)
+case-used m zero (suc e) =
     elim (decLe (suc e) 256) [
-      | yes h ↦ rw (le-leb (suc e) 256 h, le-ltb 256 (suc e) h) (unless-forced m case2S case2E)
-      | no h ↦ rw (lt-leb (suc e) 256 (omega arith), lt-ltb 256 (suc e) (omega arith)) (unless-same m case2E)
+      | yes h ↦ rw (le-leb (suc e) 256 h) (in-mode (λ x. Used x 0 (suc e)) m case2S case2E (λ _. (refl, omega arith, h)) (λ _. (refl, omega arith)))
+      | no h ↦
+          rw (lt-leb (suc e) 256 (omega arith))
+          (in-mode (λ x. Used x 0 (suc e)) m case2E case2E (λ _. (refl, omega arith)) (λ _. (refl, omega arith)))
     ]
-picked m (suc n) e =
+case-used m (suc n) e =
+    let extended = extended-used (suc n) e (omega arith) in
     elim (decLe (suc n) 255) [
       | yes h ↦
           elim (decLe e 256) [
-            | yes g ↦ rw (le-ltb 255 (suc n) h, le-ltb 256 e g) (unless-forced m (afterShort e) (afterExtended e))
-            | no g ↦ rw (le-ltb 255 (suc n) h, lt-ltb 256 e (omega arith))
+            | yes g ↦
+                rw (le-ltb 255 (suc n) h, le-ltb 256 e g)
+                (in-mode (λ x. Used x (suc n) e) m (afterShort e) (afterExtended e) (λ _. short-used (suc n) e (omega arith) h g) (λ _. extended))
+            | no g ↦ rw (le-ltb 255 (suc n) h, lt-ltb 256 e (omega arith)) extended
           ]
-      | no h ↦ rw (lt-ltb 255 (suc n) (omega arith))
+      | no h ↦ rw (lt-ltb 255 (suc n) (omega arith)) extended
     ]
 
--- Lc in its bytes, then Le, where the most is zero
-lc-one : (n : ℕ) → n ≤ 255 → be 1 n ≡ n ∷ []
-unfolding be
-lc-one n h = let a : n % 256 ≡ n = omega arith in rw a
+-- Le 0 is omitted
+no-le : (x : Case) (n e : ℕ) → Used x n e → e ≡ 0 → leBytes x ≡ 0
+no-le case1 n e u z = refl
+no-le case2S n e u z = absurd (omega (arith, u .1))
+no-le case3S n e u z = refl
+no-le case4S n e u z = absurd (omega (arith, u .2))
+no-le case2E n e u z = absurd (omega (arith, u .1))
+no-le case3E n e u z = refl
+no-le case4E n e u z = absurd (omega (arith, u .1))
 
-lc-two : (n : ℕ) → n ≤ 65535 → be 2 n ≡ two n
-unfolding be
-lc-two n h = let a : n / 256 % 256 ≡ n / 256 = omega arith in rw a
+pub le-none : (b : CommandBuilder) (n : ℕ) → leShown b ≡ 0 → leLen b n ≡ 0
+unfolding leLen caseOf
+le-none b n h = no-le (caseFor (b .mode) n (leShown b)) n (leShown b) (case-used (b .mode) n (leShown b)) h
 
-le-one : (e : ℕ) → e ≤ 256 → be 1 e ≡ coded 256 e ∷ []
-unfolding be coded
-le-one e h =
-    elim (decLe e 255) [
-      | yes g ↦ rw (ne-eqb e 256 (omega arith)) (lc-one e g)
-      | no g ↦ let a : e ≡ 256 = omega arith in rw a
+lc-short : (e : ℕ) → lcBytes (afterShort e) ≡ 1
+lc-short zero = refl
+lc-short (suc e) = refl
+
+lc-extended : (e : ℕ) → lcBytes (afterExtended e) ≡ 3
+lc-extended zero = refl
+lc-extended (suc e) = refl
+
+-- Lc of fewer data without Le is not longer
+lc-forced : (m : ExtendedLen) (e : ℕ) → lcBytes (unlessForced m case3S case3E) ≤ lcBytes (unlessForced m (afterShort e) (afterExtended e))
+lc-forced Unsupported e = rw (lc-short e) (omega arith)
+lc-forced Supported e = rw (lc-short e) (omega arith)
+lc-forced Forced e = rw (lc-extended e) (omega arith)
+
+lc-more : (m : ExtendedLen) (k n e : ℕ) → k ≤ n → lcBytes (caseFor m k 0) ≤ lcBytes (caseFor m n e)
+unfolding caseFor
+lc-more m zero n e h = zero-le
+lc-more m (suc k) zero e h = absurd (omega arith)
+lc-more m (suc k) (suc n) e h =
+    let few = case-few (withData m (suc k) 0) .0 in
+    elim (decLe (suc n) 255) [
+      | yes g ↦
+          elim (decLe e 256) [
+            | yes f ↦ rw (le-ltb 255 (suc n) g, le-ltb 255 (suc k) (omega arith), le-ltb 256 e f) (lc-forced m e)
+            | no f ↦ rw (le-ltb 255 (suc n) g, lt-ltb 256 e (omega arith), lc-extended e) few
+          ]
+      | no g ↦ rw (lt-ltb 255 (suc n) (omega arith), lc-extended e) few
     ]
 
-le-two : (e : ℕ) → e ≤ 65536 → be 2 e ≡ two (coded 65536 e)
-unfolding be coded
-le-two e h =
-    elim (decLe e 65535) [
-      | yes g ↦ rw (ne-eqb e 65536 (omega arith)) (lc-two e g)
-      | no g ↦ let a : e ≡ 65536 = omega arith in rw a
-    ]
-
-some : (n : ℕ) → eqb (suc n) 0 ≡ false
-some n = ne-eqb (suc n) 0 (omega arith)
-
--- the fields of a command by that flag
-module _ (c i p q : ℕ) where
-  abbrev Laid : Bool → List ℕ → ℕ → Type 0
-  Laid w d e =
-      (((c ∷ i ∷ p ∷ q ∷ []) ++ field (lcSize w (length d)) (length d)) ++ d) ++ field (leSize w (length d) e) e
-      ≡ caseBytes (pick w (length d) e) (c ∷ i ∷ p ∷ q ∷ []) d e
-
-  laid : (w : Bool) (d : List ℕ) (e : ℕ) → (w ≡ false → (length d ≤ 255) × (e ≤ 256)) → length d ≤ 65535 → e ≤ 65536 → Laid w d e
-  unfolding lcSize leSize field
-  laid w [] zero f o l = refl
-  laid true [] (suc e) f o l = rw (some e, le-two (suc e) l)
-  laid false [] (suc e) f o l = rw (some e, le-one (suc e) (f refl .1))
-  laid true (x ∷ d) zero f o l = rw (some (length d), lc-two (suc (length d)) o, append-nil d)
-  laid true (x ∷ d) (suc e) f o l = rw (some (length d), some e, lc-two (suc (length d)) o, le-two (suc e) l)
-  laid false (x ∷ d) zero f o l = rw (some (length d), lc-one (suc (length d)) (f refl .0), append-nil d)
-  laid false (x ∷ d) (suc e) f o l = rw (some (length d), some e, lc-one (suc (length d)) (f refl .0), le-one (suc e) (f refl .1))
-
--- of every builder, with data of at most 65,535 bytes and an Le of at most 65,536
-pub command-by-case : (b : CommandBuilder) (d : List ℕ) → length d ≤ 65535 → leShown b ≤ 65536
-    → commandOf b d ≡ caseBytes (caseFor (b .mode) (length d) (leShown b)) (header b) d (leShown b)
-unfolding commandOf lcLen leLen
-command-by-case b d h g =
-    let n = length d in
-    let e = leShown b in
-    rw (picked (b .mode) n e)
-    (laid (b .class .cla) (b .instruction) (b .p1) (b .p2) (wide (b .mode) n e) d e (narrow (b .mode) n e) h g)
-
--- the length of each case
-pub case-length : (x : Case) (h d : List ℕ) (e : ℕ) → length h ≡ 4 → length (caseBytes x h d e) ≡ caseLength x (length d)
-case-length case1 h d e k = k
-case-length case2S h d e k = simp (length-append, k)
-case-length case3S h d e k = simp (length-append, k) (omega arith)
-case-length case4S h d e k = simp (length-append, k) (omega arith)
-case-length case2E h d e k = simp (length-append, k)
-case-length case3E h d e k = simp (length-append, k) (omega arith)
-case-length case4E h d e k = simp (length-append, k) (omega arith)
-
-counted : (w : Bool) (n e : ℕ) → 4 + lcSize w n + n + leSize w n e ≡ caseLength (pick w n e) n
-unfolding lcSize leSize
-counted w zero zero = refl
-counted true zero (suc e) = rw (some e)
-counted false zero (suc e) = rw (some e)
-counted true (suc n) zero = rw (some n) (omega arith)
-counted false (suc n) zero = rw (some n) (omega arith)
-counted true (suc n) (suc e) = rw (some n, some e) (omega arith)
-counted false (suc n) (suc e) = rw (some n, some e) (omega arith)
-
-pub length-by-case : (b : CommandBuilder) (n : ℕ) → requiredLen b n ≡ caseLength (caseFor (b .mode) n (leShown b)) n
-unfolding requiredLen lcLen leLen
-length-by-case b n = rw (picked (b .mode) n (leShown b)) (counted (wide (b .mode) n (leShown b)) n (leShown b))
+pub lc-part : (a b : CommandBuilder) (k n : ℕ) → a .mode ≡ b .mode → leShown a ≡ 0 → k ≤ n → lcLen a k ≤ lcLen b n
+unfolding lcLen caseOf
+lc-part a b k n m e h = rw (e, m) (lc-more (b .mode) k n (leShown b) h)

@@ -9,7 +9,7 @@ use borrow.Author.Tests.{eq-eqb, ne-eqb}
 use lib.Dec.{eqb}
 use lib.ListN.{length}
 use Rattle.command.proofs.Cases.{headed}
-use Rattle.builder.specs.Bytes.{lowered, leShown, lcLen}
+use Rattle.builder.specs.Bytes.{asked, loweredLen, leShown, lcLen}
 use Rattle.builder.specs.Compare.{compared, sameHeader, equalTo}
 use Rattle.builder.specs.declared.ExpectedLen.the-variants.{Ne, Max}
 use Rattle.builder.specs.declared.ExtendedLen.{ExtendedLen}
@@ -19,7 +19,7 @@ use Rattle.builder.proofs.Same.{same-self}
 use Rattle.builder_laws.specs.Read.{extendedFor, viewFor}
 use Rattle.builder_laws.proofs.Shown.{le-read}
 
-max-lowered : (m : ExtendedLen) → eqb 65535 (lowered m 65536) ≡ false
+max-lowered : (m : ExtendedLen) → eqb 65535 (asked (loweredLen m Max)) ≡ false
 max-lowered Unsupported = refl
 max-lowered Supported = refl
 max-lowered Forced = refl

@@ -1,11 +1,12 @@
--- What `new` makes is read back. Assumes nothing.
-use Prim.Native.Nat.{ℕ}
+-- What `new` replies, and that what it makes is read back. Assumes nothing.
+use Prim.Native.Nat.{ℕ, _≤_, _<_}
 use mathlib.Core.Path.{_≡_, refl, sym, ap, _∙_}
 use mathlib.Core.List.{List}
-use borrow.Author.Tests.{ltb-false, eqb-false}
+use native.Mathlib.Omega.{arith}
+use borrow.Author.Tests.{lt-ltb, le-ltb, eq-eqb, ne-eqb, ltb-false, eqb-false}
 use lib.Dec.{ltb, eqb}
 use lib.ListN.{length}
-use Rattle.basis.specs.Reply.{is}
+use Rattle.basis.specs.Reply.{is, no}
 use Rattle.basis.proofs.Reply.{All, all-is, all-cond, all-then}
 use Rattle.class.specs.Class.{fromByte}
 use Rattle.class.specs.declared.Class.{Class}
@@ -35,12 +36,28 @@ module _ (c i p q n : ℕ) (e : ExpectedLen) (m : ExtendedLen) where
       all-then (Made c i p q n e m) (Classed c) (fromByte c) _ (classed c) (λ k h.
       all-cond (Made c i p q n e m) (ltb 65535 n) _ _ (λ _. tt) (λ f. record {
         class = λ z. h .0 (sym (ap (λ (x : Class). x .cla) (h .1)) ∙ z);
-        few = ltb-false 65535 n f;
+        few = omega (arith, ltb-false 65535 n f);
         fields = rw (h .1);
       }))
 
   pub new-made : (b : CommandBuilder) → newOf c i p q n e m ≡ is b → Made c i p q n e m b
   new-made b h = all-is (Made c i p q n e m) (newOf c i p q n e m) b all-made h
+
+-- in terms of its arguments: 3, then 13, else the builder
+module _ (c i p q n : ℕ) (e : ExpectedLen) (m : ExtendedLen) where
+  pub new-ff : c ≡ 0xFF → newOf c i p q n e m ≡ no 3
+  unfolding newOf fromByte
+  new-ff k = rw (eq-eqb c 0xFF k)
+
+  module _ (k : c ≡ 0xFF → ⊥) where
+    pub new-long : 65535 < n → newOf c i p q n e m ≡ no 13
+    unfolding newOf fromByte
+    new-long h = rw (ne-eqb c 0xFF k, lt-ltb 65535 n h)
+
+    pub new-is : n ≤ 65535
+        → newOf c i p q n e m ≡ is (record { class = record { cla = c }; instruction = i; p1 = p; p2 = q; le = e; mode = m })
+    unfolding newOf fromByte
+    new-is h = rw (ne-eqb c 0xFF k, le-ltb 65535 n h)
 
 -- so its command is, with the data that it was made for
 pub made-read : (r : Reading) (c i p q : ℕ) (d : List ℕ) (e : ExpectedLen) (m : ExtendedLen) (b : CommandBuilder)

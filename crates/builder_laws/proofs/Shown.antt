@@ -1,41 +1,65 @@
 -- The expected length that is shown: the one asked for, save that short mode lowers it to at most 256. When lengths are extended.
 -- Assumes nothing.
 use Prim.Native.Nat.{ℕ, zero, suc, _+_, _≤_, _<_}
-use mathlib.Core.Path.{_≡_, refl, ap}
-use mathlib.Core.Bool.{Bool, true, false, cond}
+use mathlib.Core.Path.{_≡_, refl, sym, ap, _∙_}
+use mathlib.Core.Bool.{true, false}
 use native.Mathlib.Decide.{decLe}
 use native.Mathlib.Omega.{arith}
-use borrow.Author.Tests.{le-leb, lt-leb, lt-ltb, le-ltb, eq-eqb, ne-eqb}
-use lib.Dec.{ltb}
-use Rattle.builder.specs.Bytes.{asked, lowered, isForced, wide, leShown}
+use borrow.Author.Tests.{le-leb, lt-leb, lt-ltb, le-ltb}
+use Rattle.builder.specs.Cases.{case2S, case2E, afterShort, afterExtended, caseFor}
+use Rattle.builder.specs.Bytes.{asked, loweredLen, loweredOf, leShown, caseOf}
 use Rattle.builder.specs.declared.ExpectedLen.{ExpectedLen}
 use Rattle.builder.specs.declared.ExpectedLen.the-variants.{Ne, Max}
 use Rattle.builder.specs.declared.ExtendedLen.{ExtendedLen}
 use Rattle.builder.specs.declared.ExtendedLen.the-variants.{Unsupported, Supported, Forced}
 use Rattle.builder.specs.declared.CommandBuilder.{CommandBuilder}
-use Rattle.builder_laws.specs.Read.{Expected, hasLengths, extendedFor, LeRead, ExtendedRead}
+use Rattle.builder_laws.specs.Read.{Expected, isExtended, extendedFor, LeRead, ExtendedRead}
+use Rattle.builder_laws.proofs.Cases.{in-mode}
 
 -- not lowered, lowered
-lowered-not : (m : ExtendedLen) (e : ℕ) → (m ≡ Unsupported → e ≤ 256) → lowered m e ≡ e
-lowered-not Unsupported e h = rw (le-leb e 256 (h refl))
-lowered-not Supported e h = refl
-lowered-not Forced e h = refl
+not-lowered : (m : ExtendedLen) (n : ℕ) → (m ≡ Unsupported → n ≤ 256) → loweredLen m (Ne n) ≡ Ne n
+not-lowered Unsupported n h = rw (le-leb n 256 (h refl))
+not-lowered Supported n h = refl
+not-lowered Forced n h = refl
 
-lowered-256 : (m : ExtendedLen) (e : ℕ) → m ≡ Unsupported → 256 < e → lowered m e ≡ 256
-lowered-256 m e k h = rw (k, lt-leb e 256 h)
+to-256 : (m : ExtendedLen) (n : ℕ) → m ≡ Unsupported → 256 < n → loweredLen m (Ne n) ≡ Ne 256
+to-256 m n k h = rw (k, lt-leb n 256 h)
 
-lowered-le : (m : ExtendedLen) (e : ℕ) → lowered m e ≤ e
-lowered-le Unsupported e =
-    elim (decLe e 256) [
-      | yes h ↦ rw (le-leb e 256 h) (omega arith)
-      | no h ↦ rw (lt-leb e 256 (omega arith)) (omega arith)
-    ]
-lowered-le Supported e = omega arith
-lowered-le Forced e = omega arith
+max-not-lowered : (m : ExtendedLen) → (m ≡ Unsupported → ⊥) → loweredLen m Max ≡ Max
+max-not-lowered Unsupported h = absurd (h refl)
+max-not-lowered Supported h = refl
+max-not-lowered Forced h = refl
+
+-- what is lowered is still an expected length
+pub lowered-expected : (m : ExtendedLen) (e : ExpectedLen) → Expected e → Expected (loweredLen m e)
+lowered-expected Unsupported (Ne n) h =
+    elim (decLe n 256) [ yes g ↦ rw (le-leb n 256 g) h | no g ↦ rw (lt-leb n 256 (omega arith)) (omega arith) ]
+lowered-expected Unsupported Max h = omega arith
+lowered-expected Supported e h = h
+lowered-expected Forced e h = h
+
+-- which they are: the numbers to 65,535, and Max
+pub expected : ((n : ℕ) → n ≤ 65535 → Expected (Ne n)) × Expected Max
+expected = ((λ n h. omega (arith, h)), omega arith)
 
 asked-le : (e : ExpectedLen) → Expected e → asked e ≤ 65536
 asked-le (Ne n) h = omega arith
 asked-le Max h = omega arith
+
+-- in short mode it is a number of at most 256
+short-lowered : (e : ExpectedLen) → (loweredLen Unsupported e ≡ Ne (asked (loweredLen Unsupported e))) × (asked (loweredLen Unsupported e) ≤ 256)
+short-lowered (Ne n) =
+    elim (decLe n 256) [ yes h ↦ rw (le-leb n 256 h) (refl, h) | no h ↦ rw (lt-leb n 256 (omega arith)) (refl, omega arith) ]
+short-lowered Max = (refl, omega arith)
+
+-- it is not lowered again
+lowered-again : (m : ExtendedLen) (e : ExpectedLen) → loweredLen m (loweredLen m e) ≡ loweredLen m e
+lowered-again Unsupported e =
+    let s = short-lowered e in
+    let n = asked (loweredLen Unsupported e) in
+    rw (s .0, le-leb n 256 (s .1))
+lowered-again Supported e = refl
+lowered-again Forced e = refl
 
 module _ (b : CommandBuilder) where
   -- by the expected length and the mode
@@ -44,53 +68,93 @@ module _ (b : CommandBuilder) where
   le-read =
       let m = b .mode in
       record {
-        number = λ n e h. rw e (lowered-not m n h);
-        number-lowered = λ n e k h. rw e (lowered-256 m n k h);
-        most = λ e h. rw e (lowered-not m 65536 (λ k. absurd (h k)));
-        most-lowered = λ e k. rw e (lowered-256 m 65536 k (omega arith));
+        number = λ n e h. rw (e, not-lowered m n h);
+        number-lowered = λ n e k h. rw (e, to-256 m n k h);
+        most = λ e h. rw (e, max-not-lowered m h);
+        most-lowered = λ e k. rw (e, k);
       }
 
   -- in every mode, and in short mode
   pub shown-le : Expected (b .le) → leShown b ≤ 65536
   unfolding leShown
-  shown-le h = omega (arith, lowered-le (b .mode) (asked (b .le)), asked-le (b .le) h)
+  shown-le h = asked-le (loweredLen (b .mode) (b .le)) (lowered-expected (b .mode) (b .le) h)
 
   pub shown-short : b .mode ≡ Unsupported → leShown b ≤ 256
   unfolding leShown
-  shown-short m =
-      elim (decLe (asked (b .le)) 256) [
-        | yes h ↦ omega (arith, lowered-le (b .mode) (asked (b .le)))
-        | no h ↦ omega (arith, lowered-256 (b .mode) (asked (b .le)) m (omega arith))
-      ]
+  shown-short m = rw m (short-lowered (b .le) .1)
 
--- data or an expected length, and neither
-some : (n e : ℕ) → 1 ≤ n + e → hasLengths n e ≡ true
-unfolding hasLengths
-some zero e h = rw (ne-eqb e 0 (omega arith))
-some (suc n) e h = rw (ne-eqb (suc n) 0 (omega arith))
+  -- the builder with that expected length: it is not lowered again, shows the same, and in short mode asks for just that
+  pub lowered-twice : loweredOf (loweredOf b) ≡ loweredOf b
+  lowered-twice =
+      let e = lowered-again (b .mode) (b .le) in
+      λ i. record { class = b .class; instruction = b .instruction; p1 = b .p1; p2 = b .p2; le = e i; mode = b .mode }
 
-none : (n e : ℕ) → n + e ≡ 0 → hasLengths n e ≡ false
-unfolding hasLengths
-none n e h = rw (eq-eqb n 0 (omega arith), eq-eqb e 0 (omega arith))
+  pub lowered-shown : leShown (loweredOf b) ≡ leShown b
+  unfolding leShown
+  lowered-shown = ap asked (lowered-again (b .mode) (b .le))
 
-unforced : (m : ExtendedLen) (n e : ℕ) → (m ≡ Forced → n + e ≡ 0) → cond (isForced m) (hasLengths n e) false ≡ false
-unforced Unsupported n e h = refl
-unforced Supported n e h = refl
-unforced Forced n e h = none n e (h refl)
+  pub lowered-le : b .mode ≡ Unsupported → loweredOf b .le ≡ Ne (leShown b)
+  unfolding leShown
+  lowered-le m = rw m (short-lowered (b .le) .0)
 
-either : (x : Bool) → cond x true true ≡ true
-either true = refl
-either false = refl
+-- the cases behind a short Lc, and behind an extended one
+short-not : (e : ℕ) → isExtended (afterShort e) ≡ false
+short-not zero = refl
+short-not (suc e) = refl
+
+extended-is : (e : ℕ) → isExtended (afterExtended e) ≡ true
+extended-is zero = refl
+extended-is (suc e) = refl
+
+-- extended lengths: for data from 256, for an Le above 256, and where they are forced and there are any; else short ones
+data-long : (m : ExtendedLen) (n e : ℕ) → 255 < n → isExtended (caseFor m n e) ≡ true
+unfolding caseFor
+data-long m zero e h = absurd (omega arith)
+data-long m (suc n) e h = rw (lt-ltb 255 (suc n) h) (extended-is e)
+
+le-large : (m : ExtendedLen) (n e : ℕ) → 256 < e → isExtended (caseFor m n e) ≡ true
+unfolding caseFor
+le-large m n zero h = absurd (omega arith)
+le-large m zero (suc e) h =
+    rw (lt-leb (suc e) 256 h) (in-mode (λ x. isExtended x ≡ true) m case2E case2E (λ _. refl) (λ _. refl))
+le-large m (suc n) (suc e) h =
+    elim (decLe (suc n) 255) [
+      | yes g ↦ rw (le-ltb 255 (suc n) g, lt-ltb 256 (suc e) h)
+      | no g ↦ rw (lt-ltb 255 (suc n) (omega arith))
+    ]
+
+forced : (m : ExtendedLen) (n e : ℕ) → m ≡ Forced → 1 ≤ n + e → isExtended (caseFor m n e) ≡ true
+unfolding caseFor
+forced m zero zero k h = absurd (omega arith)
+forced m zero (suc e) k h = rw k
+forced m (suc n) e k h =
+    elim (decLe (suc n) 255) [
+      | yes g ↦
+          elim (decLe e 256) [
+            | yes f ↦ rw (le-ltb 255 (suc n) g, le-ltb 256 e f, k) (extended-is e)
+            | no f ↦ rw (le-ltb 255 (suc n) g, lt-ltb 256 e (omega arith)) (extended-is e)
+          ]
+      | no g ↦ rw (lt-ltb 255 (suc n) (omega arith)) (extended-is e)
+    ]
+
+short : (m : ExtendedLen) (n e : ℕ) → n ≤ 255 → e ≤ 256 → (m ≡ Forced → n + e ≡ 0) → isExtended (caseFor m n e) ≡ false
+unfolding caseFor
+short m zero zero h g f = refl
+short m zero (suc e) h g f =
+    rw (le-leb (suc e) 256 g) (in-mode (λ x. isExtended x ≡ false) m case2S case2E (λ _. refl) (λ k. absurd (omega (arith, f k))))
+short m (suc n) e h g f =
+    rw (le-ltb 255 (suc n) h, le-ltb 256 e g)
+    (in-mode (λ x. isExtended x ≡ false) m (afterShort e) (afterExtended e) (λ _. short-not e) (λ k. absurd (omega (arith, f k))))
 
 -- by the data, the expected length and the mode
 pub extended-read : (b : CommandBuilder) (n : ℕ) → ExtendedRead b n
-unfolding extendedFor wide
+unfolding extendedFor caseOf
 extended-read b n =
+    let m = b .mode in
     let e = leShown b in
-    let long = either (ltb 255 n) in
     record {
-      data-long = λ h. rw (lt-ltb 255 n h, some n e (omega arith));
-      le-large = λ h. rw (lt-ltb 256 e h, long, some n e (omega arith));
-      forced = λ m h. rw (ap isForced m, either (ltb 256 e), long, some n e h);
-      short = λ h g f. rw (le-ltb 255 n h, le-ltb 256 e g) (unforced (b .mode) n e f);
+      data-long = λ h. data-long m n e h;
+      le-large = λ h. le-large m n e h;
+      forced = λ k h. forced m n e k h;
+      short = λ h g f. short m n e h g f;
     }

@@ -1,4 +1,4 @@
--- What `serialize_into` leaves in a buffer: at the place that it was written at stand the bytes of its case, and it is read back.
+-- What `serialize_into` leaves in a buffer: at the place that it was written at stands the command, and it is read back.
 -- Assumes nothing.
 use Prim.Native.Nat.{ℕ, _+_, _≤_}
 use mathlib.Core.Path.{_≡_, refl, sym, _∙_}
@@ -13,13 +13,10 @@ use Rattle.basis.specs.Part.{put}
 use Rattle.basis.proofs.Reply.{All, all-is, all-cond}
 use Rattle.class.specs.declared.Reading.{Reading}
 use Rattle.command.proofs.Cases.{ReadAs}
-use Rattle.builder.specs.Bytes.{leShown, header, commandOf, serializeOf, said, serialize-into-is}
+use Rattle.builder.specs.Bytes.{commandOf, serializeOf, said, serialize-into-is}
 use Rattle.builder.specs.declared.CommandBuilder.{CommandBuilder}
 use Rattle.builder.specs.declared.sizes.Length.{Length}
-use Rattle.builder_laws.specs.Cases.{caseBytes, caseFor}
 use Rattle.builder_laws.specs.Read.{Expected, viewFor}
-use Rattle.builder_laws.proofs.Shown.{shown-le}
-use Rattle.builder_laws.proofs.Cases.{command-by-case}
 use Rattle.builder_laws.proofs.Read.{built-read}
 
 -- a command that fitted
@@ -47,11 +44,6 @@ module _ (b : CommandBuilder) (d before : List ℕ) (at n : ℕ) (x : Length) (a
       let l : length (take at before) ≡ at = length-take-le at before (omega (arith, fits .1)) in
       rw (w .buffer, sym (w .reply) ∙ s, fits .2, drop-at (take at before) (c ++ drop (at + length c) before) at l)
       (take-append-seam c (drop (at + length c) before))
-
-  -- which is the one of its case
-  pub written-by-case : Expected (b .le)
-      → take n (drop at after) ≡ caseBytes (caseFor (b .mode) (length d) (leShown b)) (header b) d (leShown b)
-  written-by-case h = stands ∙ command-by-case b d (fits .0) (shown-le b h)
 
   pub written-read : (r : Reading) → (b .class .cla ≡ 0xFF → ⊥) → Expected (b .le)
       → ReadAs r (take n (drop at after)) (viewFor b (length d)) d

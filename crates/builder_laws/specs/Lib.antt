@@ -1,4 +1,2 @@
 pub mod Read
-pub mod Pieces
 pub mod Made
-pub mod Cases

@@ -2,10 +2,10 @@
 -- expected length, which short mode lowered to at most 256 and where Max is 65,536.
 use Prim.Native.Nat.{ℕ, _+_, _≤_, _<_}
 use mathlib.Core.Path.{_≡_}
-use mathlib.Core.Bool.{Bool, true, false, cond}
-use lib.Dec.{eqb}
+use mathlib.Core.Bool.{Bool, true, false}
 use Rattle.command.specs.declared.CommandView.{CommandView}
-use Rattle.builder.specs.Bytes.{wide, leShown, lcLen}
+use Rattle.builder.specs.Cases.{Case, case1, case2S, case3S, case4S, case2E, case3E, case4E}
+use Rattle.builder.specs.Bytes.{leShown, caseOf, lcLen}
 use Rattle.builder.specs.declared.ExpectedLen.{ExpectedLen}
 use Rattle.builder.specs.declared.ExpectedLen.the-variants.{Ne, Max}
 use Rattle.builder.specs.declared.ExtendedLen.the-variants.{Unsupported, Forced}
@@ -16,13 +16,19 @@ abbrev pub Expected : ExpectedLen → Type 0
 Expected (Ne n) = n ≤ 65535
 Expected Max = Unit {0}
 
--- there are n data bytes or an Le of e
-unfoldable pub hasLengths : ℕ → ℕ → Bool
-hasLengths n e = cond (eqb n 0) (cond (eqb e 0) false true) true
+-- whether the lengths of a case are extended
+abbrev pub isExtended : Case → Bool
+isExtended case1 = false
+isExtended case2S = false
+isExtended case3S = false
+isExtended case4S = false
+isExtended case2E = true
+isExtended case3E = true
+isExtended case4E = true
 
--- a builder's command with n data bytes has extended lengths where they are wide, and it has any
+-- those of a builder's command with n data bytes
 unfoldable pub extendedFor : CommandBuilder → ℕ → Bool
-extendedFor b n = cond (wide (b .mode) n (leShown b)) (hasLengths n (leShown b)) false
+extendedFor b n = isExtended (caseOf b n)
 
 -- what it is read as: the builder's header and expected length, and n data bytes behind the header and Lc
 abbrev pub viewFor : CommandBuilder → ℕ → CommandView

@@ -14,9 +14,8 @@ use Rattle.tlv.specs.Len.{lenOf}
 use Rattle.tlv.specs.declared.Reading.{Reading as TlvReading}
 use Rattle.tlv.specs.declared.Reading.the-variants as tlv
 use Rattle.command.specs.Body.{bodyOf}
-use Rattle.splitter.specs.Pieces.{parts}
+use Rattle.splitter.specs.Pieces.{Part, parts}
 use Rattle.basis.specs.Every.{Every}
-use Rattle.splitter_laws.specs.Number.{sizeOf}
 use Rattle.splitter_laws.specs.Chain.{shortOf}
 
 -- what is asked: a command's body, a tag, a length, a class byte's channel, data bytes with an Le cut in short form for a buffer,
@@ -33,6 +32,9 @@ pub data Question : Type 0 where
 abbrev pub numberIn : Option ℕ → List ℕ
 numberIn none = []
 numberIn (some n) = n ∷ []
+
+abbrev pub sizeOf : Part → ℕ
+sizeOf p = length (p .«data»)
 
 abbrev pub answerTo : Question → Reply (List ℕ)
 answerTo (body r s) = then (bodyOf r s) (λ b. is (b .lc ∷ b .le ∷ []))

@@ -21,7 +21,6 @@ use Rattle.splitter.specs.declared.pieces.Piece.{Piece}
 use Rattle.splitter.specs.declared.pieces.Pieces.{Pieces}
 use Rattle.splitter.specs.declared.pieces.Pieces.the-variants as pieces
 use Rattle.splitter.proofs.Inside.{left-by}
-use Rattle.splitter_laws.specs.Cut.{Goes}
 use Rattle.splitter_laws.proofs.Cut.{never-refused}
 use Rattle.splitter_laws.proofs.Chain.{chain-made}
 use Rattle.exports_splitter.specs.Numbers.{chainNumbered}
@@ -50,17 +49,16 @@ late-written b t m at h =
     rw (le-ltb 65535 (length t) h) (late-cond (ltb m (at + length (commandOf b t))) (length (commandOf b t)))
 
 -- no step is refused
-late-goes : {A : Type 0} (b : CommandBuilder) (n m : ℕ) (x : Reply (Option Split)) (f : Option Split → A) → Goes b n m x
-    → Late (then x (λ s. is (f s)))
-late-goes b n m (is s) f h = tt
-late-goes b n m (no k) f h = absurd h
+late-goes : {A : Type 0} (x : Reply (Option Split)) (f : Option Split → A) → ((k : ℕ) → x ≡ no k → ⊥) → Late (then x (λ s. is (f s)))
+late-goes (is s) f h = tt
+late-goes (no k) f h = absurd (h k refl)
 
 module _ (d : List ℕ) (few : length d ≤ 65535) where
   late-left : (l : Left) → 10 ≤ l .available → Late (leftOf l d)
   late-left l ten =
       let n = length (drop (placeIn l d) d) in
       subst (λ (x : Reply Piece). Late x) (sym (left-by l d (stepOf (l .builder) n (l .available)) few refl))
-      (late-goes (l .builder) n (l .available) (stepOf (l .builder) n (l .available)) (pieceBy l (placeIn l d) n)
+      (late-goes (stepOf (l .builder) n (l .available)) (pieceBy l (placeIn l d) n)
       (never-refused (l .builder) n (l .available) ten (omega (arith, length-drop (placeIn l d) d))))
 
   module _ (m at : ℕ) where

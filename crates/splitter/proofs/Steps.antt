@@ -6,7 +6,8 @@ use borrow.Author.Tests.{lt-ltb, le-ltb, le-leb, lt-leb, eq-eqb, ne-eqb}
 use Rattle.basis.specs.Reply.{is, no}
 use Rattle.builder.specs.declared.CommandBuilder.{CommandBuilder}
 use Rattle.builder.proofs.Data.{too-many, few}
-use Rattle.splitter.specs.Step.{roomOf, firstOf, laterOf, stepOf}
+use Rattle.builder.specs.Bytes.{loweredOf}
+use Rattle.splitter.specs.Step.{roomOf, firstOf, stepOf}
 
 module _ (b : CommandBuilder) (n m : ℕ) where
   pub step-long : 65535 < n → stepOf b n m ≡ no 13
@@ -29,6 +30,6 @@ module _ (b : CommandBuilder) (n m : ℕ) where
         step-no-room e = few n _ h ∙ rw (le-ltb m 4 g, lt-leb n (roomOf b n m) f, eq-eqb (roomOf b n m) 0 e)
 
         pub step-split : (roomOf b n m ≡ 0 → ⊥)
-            → stepOf b n m ≡ is (some (record { now = firstOf b; len = roomOf b n m; later = laterOf b }))
+            → stepOf b n m ≡ is (some (record { now = firstOf b; len = roomOf b n m; later = loweredOf b }))
         unfolding stepOf
         step-split e = few n _ h ∙ rw (le-ltb m 4 g, lt-leb n (roomOf b n m) f, ne-eqb (roomOf b n m) 0 e)

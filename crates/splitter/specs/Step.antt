@@ -9,22 +9,14 @@ use lib.ListN.{length}
 use Rattle.basis.specs.Reply.{Reply, is, no}
 use Rattle.class.specs.Chain.{chained}
 use Rattle.builder.specs.Builder.{unlessLong}
-use Rattle.builder.specs.Bytes.{lcLen, leLen}
+use Rattle.builder.specs.Bytes.{loweredOf, lcLen, leLen}
 use Rattle.builder.specs.declared.CommandBuilder.{CommandBuilder}
-use Rattle.builder.specs.declared.ExpectedLen.{ExpectedLen}
-use Rattle.builder.specs.declared.ExpectedLen.the-variants.{Ne, Max}
+use Rattle.builder.specs.declared.ExpectedLen.the-variants.{Ne}
 use Rattle.builder.specs.declared.ExtendedLen.{ExtendedLen}
 use Rattle.builder.specs.declared.ExtendedLen.the-variants.{Unsupported, Supported, Forced}
 use Rattle.splitter.specs.declared.step.Split.{Split}
 use Rattle.splitter.specs.declared.step.ShouldSplit.{ShouldSplit}
 use Rattle.splitter.specs.declared.step.ShouldSplit.the-variants as should
-
--- the expected length that the rest keeps: lowered in short mode
-abbrev pub loweredLen : ExtendedLen → ExpectedLen → ExpectedLen
-loweredLen Unsupported (Ne n) = cond (leb n 256) (Ne n) (Ne 256)
-loweredLen Unsupported Max = Ne 256
-loweredLen Supported e = e
-loweredLen Forced e = e
 
 -- the most data bytes of a part
 abbrev pub most : ExtendedLen → ℕ
@@ -52,25 +44,14 @@ firstOf b =
       mode = b .mode;
     }
 
--- the rest: class, mode and Le, which is lowered in short mode
-abbrev pub laterOf : CommandBuilder → CommandBuilder
-laterOf b =
-    record {
-      class = b .class;
-      instruction = b .instruction;
-      p1 = b .p1;
-      p2 = b .p2;
-      le = loweredLen (b .mode) (b .le);
-      mode = b .mode;
-    }
-
--- a step for n data bytes and a buffer of m: none where the room covers the data
+-- a step for n data bytes and a buffer of m: none where the room covers the data; the rest keeps class, mode and Le, which short mode
+-- lowers
 unfoldable pub stepOf : CommandBuilder → ℕ → ℕ → Reply (Option Split)
 stepOf b n m =
     unlessLong n
     (cond (ltb m 4) (no 14)
     (cond (leb n (roomOf b n m)) (is none)
-    (cond (eqb (roomOf b n m) 0) (no 14) (is (some (record { now = firstOf b; len = roomOf b n m; later = laterOf b }))))))
+    (cond (eqb (roomOf b n m) 0) (no 14) (is (some (record { now = firstOf b; len = roomOf b n m; later = loweredOf b }))))))
 
 abbrev pub said : ShouldSplit → Reply (Option Split)
 said should.Whole = is none

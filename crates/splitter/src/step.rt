@@ -1,7 +1,6 @@
 // One step of splitting.
 ghost use mathlib.Core.Path.{_≡_};
-ghost use Rattle.builder.specs.declared.ExtendedLen.the-variants.{Unsupported};
-ghost use Rattle.splitter.specs.Step.{loweredLen, most, roomIn, firstOf, laterOf, should-split-is};
+ghost use Rattle.splitter.specs.Step.{most, roomIn, firstOf, should-split-is};
 use builder::CommandBuilder;
 use builder::ExpectedLen;
 use builder::ExtendedLen;
@@ -19,32 +18,6 @@ pub enum ShouldSplit {
     Whole,
     Split(Split),
     Refused(u8),
-}
-
-// An expected length of at most 256.
-fn at_most_256(le: ExpectedLen) -> ExpectedLen
-    ensures { λ r. ⌜ r ≡ loweredLen Unsupported le ⌝ }
-{
-    match le {
-        ExpectedLen::Ne(n) => {
-            if n <= 256 {
-                return ExpectedLen::Ne(n);
-            }
-            ExpectedLen::Ne(256)
-        }
-        ExpectedLen::Max => ExpectedLen::Ne(256),
-    }
-}
-
-// The expected length that the rest keeps: lowered in short mode.
-fn lowered_len(mode: ExtendedLen, le: ExpectedLen) -> ExpectedLen
-    ensures { λ r. ⌜ r ≡ loweredLen mode le ⌝ }
-{
-    match mode {
-        ExtendedLen::Unsupported => at_most_256(le),
-        ExtendedLen::Supported => le,
-        ExtendedLen::Forced => le,
-    }
 }
 
 // The most data bytes of a part.
@@ -88,24 +61,6 @@ fn first(builder: CommandBuilder) -> CommandBuilder
     }
 }
 
-// The rest: all as it was, but for the expected length in short mode.
-fn later(builder: CommandBuilder) -> CommandBuilder
-    ensures { λ r. ⌜ r ≡ laterOf builder ⌝ }
-{
-    let class = builder.class;
-    let mode = builder.mode;
-    let le = builder.le;
-    let le = lowered_len(mode, le);
-    CommandBuilder {
-        class,
-        instruction: builder.instruction,
-        p1: builder.p1,
-        p2: builder.p2,
-        le,
-        mode,
-    }
-}
-
 // Whether a command with these data fits a buffer of so many bytes, and its two parts where it does not.
 pub fn should_split(builder: CommandBuilder, data: &[u8], available: usize) -> ShouldSplit
     ensures { λ r. ⌜ should-split-is builder (now («data» .entry)) available r ⌝ }
@@ -118,7 +73,8 @@ pub fn should_split(builder: CommandBuilder, data: &[u8], available: usize) -> S
             }
             let n = data.len();
             let mode = builder.mode;
-            let len = room(mode, total - n, available);
+            let extra = total - n;
+            let len = room(mode, extra, available);
             if n <= len {
                 return ShouldSplit::Whole;
             }
@@ -126,7 +82,7 @@ pub fn should_split(builder: CommandBuilder, data: &[u8], available: usize) -> S
                 return ShouldSplit::Refused(14);
             }
             let now = first(builder);
-            let later = later(builder);
+            let later = builder.lowered();
             ShouldSplit::Split(Split { now, len, later })
         }
     }

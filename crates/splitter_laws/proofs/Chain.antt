@@ -16,14 +16,14 @@ use Rattle.builder.specs.Builder.{newOf}
 use Rattle.builder.specs.declared.CommandBuilder.{CommandBuilder}
 use Rattle.builder.specs.declared.ExpectedLen.the-variants.{Ne}
 use Rattle.builder.specs.declared.ExtendedLen.the-variants.{Unsupported}
-use Rattle.builder_laws.proofs.Made.{new-made}
-use Rattle.splitter.specs.Step.{roomOf, firstOf, laterOf}
+use Rattle.builder.specs.Bytes.{loweredOf}
+use Rattle.builder_laws.proofs.Made.{new-made, new-ff, new-long, new-is}
+use Rattle.splitter.specs.Step.{roomOf, firstOf}
 use Rattle.splitter.specs.Pieces.{Part, parts, pieceOf, piecesOf, chainOf, leftOf, nextOf, bytesOf}
 use Rattle.splitter.specs.declared.pieces.Piece.{Piece}
 use Rattle.splitter.specs.declared.pieces.Pieces.{Pieces}
 use Rattle.splitter.specs.declared.pieces.Pieces.the-variants as pieces
 use Rattle.splitter_laws.specs.Chain.{shortOf, startOf, ChainMade, answers, oneByOne, given, collected}
-use Rattle.splitter_laws.proofs.Builder.{new-ff, new-long, new-is}
 use Rattle.splitter_laws.proofs.Cut.{step-whole, step-split, cut}
 
 -- When a chain is made, and what is refused: 3, 13, and 14 for a buffer under ten.
@@ -89,7 +89,7 @@ module _ (d : List ℕ) (m : ℕ) (few : length d ≤ 65535) (ten : 10 ≤ m) (b
 
     ask-split : (r : ℕ) → r ≡ roomOf b (length (drop at d)) m → 1 ≤ r → r < length (drop at d)
         → nextOf (leftAt b at m) d
-        ≡ is (some (record { builder = firstOf b; at = at; len = r; rest = leftAt (laterOf b) (at + r) m }))
+        ≡ is (some (record { builder = firstOf b; at = at; len = r; rest = leftAt (loweredOf b) (at + r) m }))
     unfolding leftOf
     ask-split r e g h =
         let n = length (drop at d) in
@@ -119,7 +119,7 @@ module _ (d : List ℕ) (m : ℕ) (few : length d ≤ 65535) (ten : 10 ≤ m) (b
       ∙ rw (q, take-length (drop at d), none-left j d)
 
   asked-split : (r : ℕ) (ps : List Part) → r ≡ roomOf b (length rest) m → 1 ≤ r → r < length rest
-      → Asked d m (laterOf b) (drop r rest) ps → Asked d m b rest (record { builder = firstOf b; «data» = take r rest } ∷ ps)
+      → Asked d m (loweredOf b) (drop r rest) ps → Asked d m b rest (record { builder = firstOf b; «data» = take r rest } ∷ ps)
   asked-split r ps e g h f at inside q k j s =
       let left = rw q at h in
       let behind : drop r rest ≡ drop (at + r) d = rw q (drop-drop r at d) in

@@ -1,7 +1,7 @@
 -- One step of splitting, and the parts of a command step after step. With a buffer of ten bytes and at most 65,535 data bytes no
 -- step is refused. Assumes nothing.
 use Prim.Native.Nat.{ℕ, zero, suc, _+_, _-_, _≤_, _<_, min}
-use mathlib.Core.Path.{_≡_, refl, ap, _∙_}
+use mathlib.Core.Path.{_≡_, refl, sym, ap, _∙_}
 use mathlib.Core.List.{List, [], _∷_}
 use mathlib.Core.Option.{Option, none, some}
 use native.Mathlib.Decide.{decLe}
@@ -10,16 +10,16 @@ use borrow.Author.Tests.{le-leb, lt-leb, lt-ltb, le-ltb, eq-eqb, ne-eqb, eqb-fal
 use lib.Dec.{ltb, leb, eqb}
 use lib.ListN.{length, take, drop, length-drop}
 use Rattle.basis.specs.Reply.{Reply, is, no as refused}
-use Rattle.basis.proofs.Reply.{All, all-is, all-cond}
-use Rattle.builder.specs.Bytes.{lcLen, leLen}
+use Rattle.basis.proofs.Reply.{no-is, All, all-is, all-cond}
+use Rattle.builder.specs.Bytes.{loweredOf, lcLen, leLen}
 use Rattle.builder.specs.declared.CommandBuilder.{CommandBuilder}
 use Rattle.builder.specs.declared.ExtendedLen.{ExtendedLen}
 use Rattle.builder.specs.declared.ExtendedLen.the-variants.{Unsupported, Supported, Forced}
-use Rattle.splitter.specs.Step.{most, roomIn, roomOf, firstOf, laterOf, stepOf}
+use Rattle.builder.proofs.Lengths.{lengths-few}
+use Rattle.splitter.specs.Step.{most, roomIn, roomOf, firstOf, stepOf}
 use Rattle.splitter.specs.Pieces.{Part, partsBy, partsIn, parts}
 use Rattle.splitter.specs.declared.step.Split.{Split}
-use Rattle.splitter_laws.specs.Cut.{splitOf, Stepped, Goes}
-use Rattle.splitter_laws.proofs.Builder.{lengths-few}
+use Rattle.splitter_laws.specs.Cut.{splitOf, Stepped}
 
 -- a part may have 255 data bytes in every mode
 most-some : (m : ExtendedLen) → 255 ≤ most m
@@ -75,13 +75,11 @@ module _ (b : CommandBuilder) (n m : ℕ) where
       }))))
 
   -- no step is refused, whatever the mode, class and expected length are, and however much of the data is left
-  pub never-refused : 10 ≤ m → n ≤ 65535 → Goes b n m (stepOf b n m)
-  never-refused ten few =
+  pub never-refused : 10 ≤ m → n ≤ 65535 → (k : ℕ) → stepOf b n m ≡ refused k → ⊥
+  never-refused ten few k e =
       elim (decLe n (roomOf b n m)) [
-        | yes h ↦ rw (step-whole few (omega arith) h) h
-        | no h ↦
-            rw (step-split few (omega arith) (room-some ten) (omega arith))
-            (record { some = room-some ten; fewer = omega arith; split = refl })
+        | yes h ↦ no-is k none (sym e ∙ step-whole few (omega arith) h)
+        | no h ↦ no-is k (some (splitOf b n m)) (sym e ∙ step-split few (omega arith) (room-some ten) (omega arith))
       ]
 
 -- what comes of a step depends on what comes of the rest only
@@ -132,7 +130,7 @@ module _ (m : ℕ) (ten : 10 ≤ m) (P : CommandBuilder → List ℕ → List Pa
     (whole : (b : CommandBuilder) (d : List ℕ) → length d ≤ roomOf b (length d) m
     → P b d (record { builder = b; «data» = d } ∷ []))
     (split : (b : CommandBuilder) (d : List ℕ) (r : ℕ) (ps : List Part) → r ≡ roomOf b (length d) m → 1 ≤ r → r < length d
-    → P (laterOf b) (drop r d) ps → P b d (record { builder = firstOf b; «data» = take r d } ∷ ps)) where
+    → P (loweredOf b) (drop r d) ps → P b d (record { builder = firstOf b; «data» = take r d } ∷ ps)) where
   cut-in : (k : ℕ) (b : CommandBuilder) (d : List ℕ) → length d < k → length d ≤ 65535 → P b d (parts b d m)
   cut-in zero b d h few = absurd (omega arith)
   cut-in (suc k) b d h few =
@@ -143,9 +141,9 @@ module _ (m : ℕ) (ten : 10 ≤ m) (P : CommandBuilder → List ℕ → List Pa
         | no g ↦
             let some = room-some b n m ten in
             let left = length-drop r d in
-            let rest = cut-in k (laterOf b) (drop r d) (omega arith) (omega arith) in
+            let rest = cut-in k (loweredOf b) (drop r d) (omega arith) (omega arith) in
             rw (parts-split b d m (splitOf b n m) (step-split b n m few (omega arith) some (omega arith)))
-            (split b d r (parts (laterOf b) (drop r d) m) refl some (omega arith) rest)
+            (split b d r (parts (loweredOf b) (drop r d) m) refl some (omega arith) rest)
       ]
 
   pub cut : (b : CommandBuilder) (d : List ℕ) → length d ≤ 65535 → P b d (parts b d m)

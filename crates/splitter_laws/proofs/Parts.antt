@@ -9,20 +9,18 @@ use lib.ListN.{length, take, drop, take-append-drop, length-take, length-drop}
 use Rattle.class.specs.Chain.{chained}
 use Rattle.class.specs.declared.Reading.{Reading}
 use Rattle.class.proofs.Readings.{chained-ef}
-use Rattle.builder.specs.Bytes.{leShown, lcLen, leLen, commandOf}
+use Rattle.builder.specs.Bytes.{loweredOf, leShown, lcLen, leLen, commandOf}
 use Rattle.builder.specs.declared.CommandBuilder.{CommandBuilder}
-use Rattle.builder.specs.declared.ExpectedLen.{ExpectedLen}
-use Rattle.builder.specs.declared.ExpectedLen.the-variants.{Ne, Max}
 use Rattle.builder.specs.declared.ExtendedLen.{ExtendedLen}
 use Rattle.builder.specs.declared.ExtendedLen.the-variants.{Unsupported, Supported, Forced}
-use Rattle.builder.proofs.Lengths.{length-command, required-is}
+use Rattle.builder.proofs.Lengths.{lengths-few, length-command, required-is}
+use Rattle.builder_laws.proofs.Cases.{le-none, lc-part}
 use Rattle.builder_laws.proofs.Read.{built-ff}
-use Rattle.builder_laws.proofs.Shown.{le-read, shown-short}
-use Rattle.splitter.specs.Step.{loweredLen, most, roomOf, firstOf, laterOf}
+use Rattle.builder_laws.proofs.Shown.{le-read, lowered-twice, lowered-shown, lowered-le}
+use Rattle.splitter.specs.Step.{most, roomOf, firstOf}
 use Rattle.splitter.specs.Pieces.{Part, parts, pieceOf, piecesOf}
 use Rattle.basis.specs.Every.{Every}
 use Rattle.splitter_laws.specs.Parts.{dataOf, Front, Last, Ends, RefusedBy}
-use Rattle.splitter_laws.proofs.Builder.{lengths-few, le-none, lc-part}
 use Rattle.splitter_laws.proofs.Cut.{room-is, step-whole, parts-whole, cut}
 use Rattle.basis.proofs.Every.{every-weaken}
 
@@ -38,13 +36,14 @@ module _ (b : CommandBuilder) (d : List ℕ) (m : ℕ) (ten : 10 ≤ m) where
       let n = length d in
       let k = length (take r d) in
       let size : k ≡ r = length-take r d ∙ omega arith in
+      let none : leShown (firstOf b) ≡ 0 = le-read (firstOf b) .number 0 refl (λ _. omega arith) in
       omega (
         arith,
         length-command (firstOf b) (take r d),
         required-is (firstOf b) k,
         room-is b n m,
-        le-none (firstOf b) k refl,
-        lc-part (firstOf b) b k n refl refl (omega arith),
+        le-none (firstOf b) k none,
+        lc-part (firstOf b) b k n refl none (omega arith),
       )
 
 -- every piece is at most as long as the buffer
@@ -72,57 +71,6 @@ pub joined : (b : CommandBuilder) (d : List ℕ) (m : ℕ) → 10 ≤ m → leng
 joined b d m ten few =
     cut m ten (λ b d ps. dataOf ps ≡ d) (λ b d h. append-nil d)
     (λ b d r ps e g h f. ap (λ (s : List ℕ). take r d ++ s) f ∙ take-append-drop r d) b d few
-
--- a lowered expected length is not lowered again
-lowered-again : (m : ExtendedLen) (e : ExpectedLen) → loweredLen m (loweredLen m e) ≡ loweredLen m e
-lowered-again Unsupported (Ne n) =
-    elim (decLe n 256) [
-      | yes h ↦ rw (le-leb n 256 h, le-leb n 256 h)
-      | no h ↦ rw (lt-leb n 256 (omega arith))
-    ]
-lowered-again Unsupported Max = refl
-lowered-again Supported e = refl
-lowered-again Forced e = refl
-
--- a builder with another expected length
-with-le : CommandBuilder → ExpectedLen → CommandBuilder
-with-le b e = record { class = b .class; instruction = b .instruction; p1 = b .p1; p2 = b .p2; le = e; mode = b .mode }
-
-module _ (b : CommandBuilder) where
-  pub later-again : laterOf (laterOf b) ≡ laterOf b
-  unfolding with-le
-  later-again = ap (with-le b) (lowered-again (b .mode) (b .le))
-
-  -- in short mode the rest asks for what is shown
-  lowered-by : b .mode ≡ Unsupported → (e : ExpectedLen) → b .le ≡ e → loweredLen (b .mode) (b .le) ≡ Ne (leShown b)
-  lowered-by q (Ne n) p =
-      elim (decLe n 256) [
-        | yes h ↦
-            let same : loweredLen (b .mode) (b .le) ≡ Ne n = rw (q, p, le-leb n 256 h) in
-            same ∙ ap Ne (sym (le-read b .number n p (λ _. h)))
-        | no h ↦
-            let most : loweredLen (b .mode) (b .le) ≡ Ne 256 = rw (q, p, lt-leb n 256 (omega arith)) in
-            most ∙ ap Ne (sym (le-read b .number-lowered n p q (omega arith)))
-      ]
-  lowered-by q Max p =
-      let most : loweredLen (b .mode) (b .le) ≡ Ne 256 = rw (q, p) in
-      most ∙ ap Ne (sym (le-read b .most-lowered p q))
-
-  pub later-le : b .mode ≡ Unsupported → laterOf b .le ≡ Ne (leShown b)
-  later-le q = lowered-by q (b .le) refl
-
-  -- the rest shows the same expected length
-  unlowered : loweredLen (b .mode) (b .le) ≡ b .le → leShown (laterOf b) ≡ leShown b
-  unfolding with-le
-  unlowered h = ap (λ (e : ExpectedLen). leShown (with-le b e)) h
-
-  shown-by : (m : ExtendedLen) → b .mode ≡ m → leShown (laterOf b) ≡ leShown b
-  shown-by Unsupported q = le-read (laterOf b) .number (leShown b) (later-le q) (λ _. shown-short b q)
-  shown-by Supported q = unlowered (rw q)
-  shown-by Forced q = unlowered (rw q)
-
-  pub later-shown : leShown (laterOf b) ≡ leShown b
-  later-shown = shown-by (b .mode) refl
 
 -- parts before the last and a last one
 abbrev Ended : CommandBuilder → List ℕ → List Part → Type 0
@@ -159,36 +107,36 @@ module _ (b : CommandBuilder) (d : List ℕ) (m : ℕ) where
         few = omega (arith, room-is b (length d) m);
       }
 
-front-later : (b : CommandBuilder) (p : Part) → Front (laterOf b) p → Front b p
+front-later : (b : CommandBuilder) (p : Part) → Front (loweredOf b) p → Front b p
 front-later b p h =
     record { builder = h .builder; chained = h .chained; no-le = h .no-le; some = h .some; few = h .few }
 
 -- the last of the rest's parts is the last of all
-last-builder : (b : CommandBuilder) (rest : List ℕ) (fs : List Part) (p : Part) → Last (laterOf b) rest fs p
-    → p .builder ≡ laterOf b
+last-builder : (b : CommandBuilder) (rest : List ℕ) (fs : List Part) (p : Part) → Last (loweredOf b) rest fs p
+    → p .builder ≡ loweredOf b
 last-builder b rest [] p h = h .builder
-last-builder b rest (f ∷ fs) p h = h .builder ∙ later-again b
+last-builder b rest (f ∷ fs) p h = h .builder ∙ lowered-twice b
 
-last-later : (b : CommandBuilder) (d rest : List ℕ) (fs : List Part) (f p : Part) → 1 ≤ length rest → Last (laterOf b) rest fs p
+last-later : (b : CommandBuilder) (d rest : List ℕ) (fs : List Part) (f p : Part) → 1 ≤ length rest → Last (loweredOf b) rest fs p
     → Last b d (f ∷ fs) p
 last-later b d rest fs f p l h =
     let made = last-builder b rest fs p h in
     record {
       builder = made;
       class = ap (λ (x : CommandBuilder). x .class) made;
-      le = λ q n. ap (λ (x : CommandBuilder). x .le) made ∙ later-le b q;
-      shows = h .shows ∙ later-shown b;
+      le = λ q n. ap (λ (x : CommandBuilder). x .le) made ∙ lowered-le b q;
+      shows = h .shows ∙ lowered-shown b;
       some = λ _. h .some l;
       few = h .few;
     }
 
-more : (b : CommandBuilder) (d rest : List ℕ) (p : Part) (ps : List Part) → 1 ≤ length rest → Front b p → Ended (laterOf b) rest ps
+more : (b : CommandBuilder) (d rest : List ℕ) (p : Part) (ps : List Part) → 1 ≤ length rest → Front b p → Ended (loweredOf b) rest ps
     → Ended b d (p ∷ ps)
 more b d rest p ps l f h = (
   p ∷ h .0,
   h .1,
   ap (λ (l : List Part). p ∷ l) (h .2),
-  (f, every-weaken (Front b) (Front (laterOf b)) (h .0) (front-later b) (h .3)),
+  (f, every-weaken (Front b) (Front (loweredOf b)) (h .0) (front-later b) (h .3)),
   last-later b d rest (h .0) p (h .1) l (h .4),
 )
 

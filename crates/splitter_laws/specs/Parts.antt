@@ -7,11 +7,11 @@ use Rattle.basis.specs.Reply.{no}
 use Rattle.class.specs.Chain.{bit}
 use Rattle.class.specs.declared.Reading.{Reading}
 use Rattle.command.specs.Command.{parse}
-use Rattle.builder.specs.Bytes.{leShown}
+use Rattle.builder.specs.Bytes.{loweredOf, leShown}
 use Rattle.builder.specs.declared.CommandBuilder.{CommandBuilder}
 use Rattle.builder.specs.declared.ExpectedLen.the-variants.{Ne}
 use Rattle.builder.specs.declared.ExtendedLen.the-variants.{Unsupported}
-use Rattle.splitter.specs.Step.{most, firstOf, laterOf}
+use Rattle.splitter.specs.Step.{most, firstOf}
 use Rattle.splitter.specs.Pieces.{Part, pieceOf}
 use Rattle.basis.specs.Every.{Every}
 
@@ -31,7 +31,7 @@ pub record Front (b : CommandBuilder) (p : Part) : Type 0 where
 -- the builder of the last part: the command's where it is the only one
 abbrev pub lastOf : CommandBuilder → List Part → CommandBuilder
 lastOf b [] = b
-lastOf b (p ∷ ps) = laterOf b
+lastOf b (p ∷ ps) = loweredOf b
 
 -- the last part, behind others: class, instruction, P1, P2 and mode the builder's; in short mode the expected length is lowered to
 -- the one that is shown, which is the same in every mode; and some data where the command has data

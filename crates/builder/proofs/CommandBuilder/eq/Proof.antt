@@ -1,8 +1,10 @@
 use borrow.Author.Needs.{needs}
 use mathlib.Core.Path.{_≡_, sym, ap, _∙_}
 use borrow.Author.Tests.{lt-ltb, le-ltb, eq-eqb, ne-eqb, not-true, not-false}
+use lib.ListN.{length}
 use Rattle.basis.specs.Reply.{is}
-use Rattle.builder.specs.Compare.{said, equalTo, eq-is}
+use Rattle.builder.specs.Builder.{unlessLong}
+use Rattle.builder.specs.Compare.{said, same, equalTo, eq-is}
 use Rattle.builder.specs.declared.compare.Comparison.{Comparison}
 use Rattle.builder.specs.declared.compare.Comparison.the-variants.{Equal, Different}
 use Rattle.builder.proofs.Same.{same-by}
@@ -32,18 +34,24 @@ abbrev start : tie.After-same → tie.Start
 start c = c .before .before .before .before .before .before .before .before .before
 
 -- header and Le agree: the data decide
-by-data : (c : tie.After-same) (r : Comparison) → said r ≡ is (c .same .result)
-    → eq-is (start c .args .self) (start c .args .«data» .now) (start c .args .view) (start c .args .other .now) r
+decided : (c : tie.After-same) → let a = start c .args in
+    unlessLong (length (a .«data» .now)) (is (equalTo (a .self) (a .«data» .now) (a .view) (a .other .now)))
+    ≡ is (same (a .«data» .now) (a .other .now))
 unfolding equalTo
-by-data c r e =
+decided c =
     let l = c .before .before .before in
     let h = l .before in
     rw (
       le-ltb _ _ (h .before .before .if1 .left),
       sym (h .before .same-header .ensures) ∙ not-false _ (h .if2 .left),
       eq-eqb _ _ (sym (l .compared .ensures) ∙ c .before .if3 .left),
-      sym (same-by _ _ _ (c .same .ensures)),
-    ) e
+    )
+
+by-data : (c : tie.After-same) (r : Comparison) → said r ≡ is (c .same .result)
+    → eq-is (start c .args .self) (start c .args .«data» .now) (start c .args .view) (start c .args .other .now) r
+by-data c r e =
+    let a = start c .args in
+    e ∙ ap is (same-by (a .«data» .now) (a .other .now) (c .same .result) (c .same .ensures)) ∙ sym (decided c)
 
 returns-4 : tie.Need-returns-4
 returns-4 c = by-data (c .before) Equal (ap is (sym (c .if4 .taken)))

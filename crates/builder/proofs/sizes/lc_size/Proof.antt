@@ -1,5 +1,5 @@
 use Rattle.basis.proofs.Tests.{tests}
-use Rattle.builder.specs.Bytes.{lcSize}
+use Rattle.builder.specs.Sizes.{lcSize}
 use Rattle.builder.proofs.sizes.lc_size.Statement.{statement}
 use Rattle.builder.proofs.sizes.lc_size.Tie as tie
 

@@ -1,5 +1,5 @@
 use Rattle.basis.proofs.Tests.{tests}
-use Rattle.builder.specs.Bytes.{leSize}
+use Rattle.builder.specs.Sizes.{leSize}
 use Rattle.builder.proofs.sizes.le_size.Statement.{statement}
 use Rattle.builder.proofs.sizes.le_size.Tie as tie
 

@@ -1,15 +1,16 @@
 use borrow.Author.Needs.{needs}
-use Rattle.builder.specs.Bytes.{leShown, lcLen, leLen}
+use Rattle.builder.specs.Bytes.{leShown}
+use Rattle.builder.proofs.Cases.{lc-sized, le-sized}
 use Rattle.builder.proofs.sizes.sizes.Statement.{statement}
 use Rattle.builder.proofs.sizes.sizes.Tie as tie
 
 returns : tie.Need-returns
-unfolding leShown lcLen leLen
+unfolding leShown
 returns c =
     let l = c .before in
     let w = l .before in
     let e = w .before in
-    rw (c .le-size .ensures, l .lc-size .ensures, w .wide .ensures, e .lowered .ensures, e .before .asked .ensures)
+    rw (lc-sized, le-sized, c .le-size .ensures, l .lc-size .ensures, w .wide .ensures, e .asked .ensures, e .before .lowered-len .ensures)
 
 pub sizes-spec : {M : Type 1} → statement M
 sizes-spec =

@@ -1,6 +1,6 @@
 use borrow.Author.Needs.{needs}
 use Rattle.basis.proofs.Tests.{tests}
-use Rattle.builder.specs.Bytes.{wide}
+use Rattle.builder.specs.Sizes.{wide}
 use Rattle.builder.proofs.sizes.wide.Statement.{statement}
 use Rattle.builder.proofs.sizes.wide.Tie as tie
 

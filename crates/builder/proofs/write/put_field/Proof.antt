@@ -6,7 +6,7 @@ use lib.ListN.{length-set}
 use Rattle.basis.specs.Number.{be}
 use Rattle.basis.specs.Part.{over}
 use Rattle.basis.proofs.Part.{stored}
-use Rattle.builder.specs.Bytes.{field}
+use Rattle.builder.specs.Sizes.{field}
 use Rattle.builder.proofs.write.put_field.Statement.{statement}
 use Rattle.builder.proofs.write.put_field.Tie as tie
 

@@ -5,11 +5,11 @@ use mathlib.Core.Path.{_≡_, sym, ap, _∙_}
 use mathlib.Core.Option.{some}
 use lib.ListN.{length}
 use Rattle.basis.specs.Reply.{is}
-use Rattle.builder.specs.Bytes.{lcLen, leLen, requiredLen, said}
+use Rattle.builder.specs.Bytes.{loweredOf, lcLen, leLen, requiredLen, said}
 use Rattle.builder.specs.declared.CommandBuilder.{CommandBuilder}
 use Rattle.builder.proofs.Data.{value-few, refusal-many}
 use Rattle.builder.proofs.Lengths.{required-is}
-use Rattle.splitter.specs.Step.{firstOf, laterOf, roomIn, roomOf}
+use Rattle.splitter.specs.Step.{firstOf, roomIn, roomOf}
 use Rattle.splitter.specs.declared.step.Split.{Split}
 use Rattle.splitter.proofs.Steps.{step-long, step-small, step-whole, step-no-room, step-split}
 use Rattle.splitter.proofs.step.should_split.Statement.{statement}
@@ -63,14 +63,14 @@ returns-4 c =
     rw (e .1) (sym (step-long _ _ _ (e .0)))
 
 -- the two parts, as they were made
-parts : (c : tie.After-later) → let r = c .before .before .before .before in
+parts : (c : tie.After-lowered) → let r = c .before .before .before .before in
     let t = r .before .before .before in
-    let made : Split = record { now = c .before .first .result; len = r .room .result; later = c .later .result } in
-    made ≡ record { now = firstOf (b t); len = roomOf (b t) (n t) (m t); later = laterOf (b t) }
+    let made : Split = record { now = c .before .first .result; len = r .room .result; later = c .lowered .result } in
+    made ≡ record { now = firstOf (b t); len = roomOf (b t) (n t) (m t); later = loweredOf (b t) }
 parts c =
     let r = c .before .before .before .before in
     let now = c .before .first .ensures in
-    let later = c .later .ensures in
+    let later = c .lowered .ensures in
     λ i. record { now = now i; len = room-is r i; later = later i }
 
 returns-5 : tie.Need-returns-5

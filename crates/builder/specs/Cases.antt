@@ -1,11 +1,12 @@
--- The cases of a command, written from ISO/IEC 7816-3 12.1, and which of them is used: document 01, "Building and cutting".
-use Prim.Native.Nat.{ℕ, zero, suc, _+_, _/_, _%_}
+-- The cases of a command by ISO/IEC 7816-3:2006 12.1.3, and which of them is used: document 01, "Building and cutting".
+use Prim.Native.Nat.{ℕ, zero, suc}
 use mathlib.Core.Bool.{cond}
-use mathlib.Core.List.{List, [], _∷_, _++_}
-use lib.Dec.{ltb, leb, eqb}
+use mathlib.Core.List.{List, _∷_, _++_}
+use lib.Dec.{ltb, leb}
 use lib.ListN.{length}
+use Rattle.basis.specs.Number.{be}
 use Rattle.builder.specs.declared.ExtendedLen.{ExtendedLen}
 use Rattle.builder.specs.declared.ExtendedLen.the-variants.{Unsupported, Supported, Forced}
 
 -- neither data nor Le (1), Le (2), data (3), data and Le (4), with short lengths (S) or extended ones (E)
 pub data Case : Type 0 where
@@ -17,33 +18,34 @@ pub data Case : Type 0 where
   case3E : Case
   case4E : Case
 
--- Le in bytes that can mean up to `most`, 256 for one byte and 65,536 for two: the most is coded as zero
-unfoldable pub coded : ℕ → ℕ → ℕ
-coded most e = cond (eqb e most) 0 e
-
--- a number in two bytes
-abbrev pub two : ℕ → List ℕ
-two n = n / 256 ∷ n % 256 ∷ []
-
--- the bytes in a case, for a header h of four bytes, data d and an Le of e
+-- the bytes of a case, for a header h, data d and an Le of e; 256 in one byte, and 65,536 in two, are zeros
 abbrev pub caseBytes : Case → List ℕ → List ℕ → ℕ → List ℕ
 caseBytes case1 h d e = h
-caseBytes case2S h d e = h ++ (coded 256 e ∷ [])
-caseBytes case3S h d e = h ++ (length d ∷ d)
-caseBytes case4S h d e = h ++ (length d ∷ d ++ (coded 256 e ∷ []))
-caseBytes case2E h d e = h ++ (0 ∷ two (coded 65536 e))
-caseBytes case3E h d e = h ++ (0 ∷ two (length d) ++ d)
-caseBytes case4E h d e = h ++ (0 ∷ two (length d) ++ (d ++ two (coded 65536 e)))
+caseBytes case2S h d e = h ++ be 1 e
+caseBytes case3S h d e = h ++ (be 1 (length d) ++ d)
+caseBytes case4S h d e = h ++ (be 1 (length d) ++ (d ++ be 1 e))
+caseBytes case2E h d e = h ++ (0 ∷ be 2 e)
+caseBytes case3E h d e = h ++ (0 ∷ be 2 (length d) ++ d)
+caseBytes case4E h d e = h ++ (0 ∷ be 2 (length d) ++ (d ++ be 2 e))
 
--- how many bytes a case has, for n data bytes
-abbrev pub caseLength : Case → ℕ → ℕ
-caseLength case1 n = 4
-caseLength case2S n = 5
-caseLength case3S n = 5 + n
-caseLength case4S n = 6 + n
-caseLength case2E n = 7
-caseLength case3E n = 7 + n
-caseLength case4E n = 9 + n
+-- how many bytes of them are Lc, and Le
+abbrev pub lcBytes : Case → ℕ
+lcBytes case1 = 0
+lcBytes case2S = 0
+lcBytes case3S = 1
+lcBytes case4S = 1
+lcBytes case2E = 0
+lcBytes case3E = 3
+lcBytes case4E = 3
+
+abbrev pub leBytes : Case → ℕ
+leBytes case1 = 0
+leBytes case2S = 1
+leBytes case3S = 0
+leBytes case4S = 1
+leBytes case2E = 3
+leBytes case3E = 0
+leBytes case4E = 2
 
 -- the first, or the second when extended is forced
 abbrev pub unlessForced : ExtendedLen → Case → Case → Case
@@ -72,7 +74,7 @@ withData m n e =
     (cond (ltb 256 e) (afterExtended e)
     (unlessForced m (afterShort e) (afterExtended e)))
 
--- the case for a mode, n data bytes and an Le of e, which is the one shown (short only lowered it to at most 256)
+-- the case for a mode, n data bytes and an Le of e
 unfoldable pub caseFor : ExtendedLen → ℕ → ℕ → Case
 caseFor m zero e = withoutData m e
 caseFor m (suc n) e = withData m (suc n) e
