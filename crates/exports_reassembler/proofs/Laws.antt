@@ -10,7 +10,7 @@ use lib.ListN.{length, take, drop, length-drop, drop-of-length-le}
 use lib.Seq.{take-length}
 use Rattle.basis.specs.Reply.{Reply, is, no, status}
 use Rattle.basis.specs.Part.{over, put}
-use Rattle.basis.proofs.Part.{rest-is, put-zero, length-put, next, length-over}
+use Rattle.basis.proofs.Part.{rest-is, length-put, next-over, length-over}
 use Rattle.class.specs.declared.Reading.the-variants.{Crate}
 use Rattle.command.specs.Command.{parse, dataIn}
 use Rattle.command.specs.Owned.{extendOf}
@@ -20,10 +20,10 @@ use Rattle.reassembler.specs.Join.{continues, heldBy, lengthOf, takenIn, viewIn
 use Rattle.reassembler.specs.declared.Reassembler.{Reassembler}
 use Rattle.reassembler.specs.declared.Reassembler.the-variants.{Closed, Open}
 use Rattle.reassembler.specs.declared.Joined.{Joined}
-use Rattle.tell.specs.Answers.{short, outAfter, refuse-is, Answers, Copied}
+use Rattle.tell.specs.Answers.{short, outAfter, refuse-is, usableOf, Answers, Copied}
 use Rattle.tell.proofs.Answers.{said as told-no, answers-no, told-done, told-all, after-short}
 use Rattle.exports_owned.specs.Copies.{ofLength}
-use Rattle.exports_reassembler.specs.Numbers.{heldNumbers, recordNumbers, telling, metBy, joinedBy, roomAfter, usableOf, PieceJoined, JoinedData}
+use Rattle.exports_reassembler.specs.Numbers.{heldNumbers, recordNumbers, telling, metBy, joinedBy, roomAfter, PieceJoined, JoinedData}
 
 -- a slice too short leaves itself and the room
 written-short : (x : Reply (List ℕ)) (out : List ℕ) → out ≡ outAfter (short x) out
@@ -98,14 +98,6 @@ one-anyway : (b : Bool) → _≡_ {A = ℕ} 1 (cond b 1 1)
 one-anyway true = refl
 one-anyway false = refl
 
--- what may be used is a part of the room
-usable-by : (b : Bool) (n : ℕ) → cond b 0 n ≤ n
-usable-by true n = omega arith
-usable-by false n = omega arith
-
-pub usable-le : (n m : ℕ) {k : ℕ} → k ≡ usableOf n m → k ≤ n
-usable-le n m e = rw e (usable-by (ltb m 14) n)
-
 -- a piece that meets the record x: under 4 bytes; no record; no room for the numbers; joined
 module _ (x : Reply Reassembler) (s room out : List ℕ) where
   pub under-four : length s < 4 → PieceJoined (metBy s x) s room out 1 room out
@@ -121,7 +113,7 @@ module _ (x : Reply Reassembler) (s room out : List ℕ) where
 
     -- joined in the part of the room that it may use
     module _ (r : Reassembler) (f : x ≡ is r) (n : ℕ) (ys : List ℕ) (q : ℕ) (out′ : List ℕ)
-        (u : n ≡ usableOf (length room) (length out)) where
+        (u : n ≡ usableOf (length room) (length out) 14) where
       all-used : ltb (length out) 14 ≡ false → ys ≡ joinOf r (take n room) s .room → Answers 14 (joinedBy (is r) (take n room) s) out q out′
           → PieceJoined (metBy s x) s room out q (ys ++ drop n room) out′
       all-used m g a =
@@ -188,15 +180,9 @@ both vs r out l ws ys a b n h t e u =
       reply = rw f (told-done ws (take (length l - 8) (drop 8 l)) b ys u room);
       told =
           rw f
-          (next 0 8 out l vs ws ys (first ∙ sym (put-zero vs out)) (omega arith) (omega arith)
-          (told-all ws (take (length l - 8) (drop 8 l)) b ys u room)
-          ∙ put-zero (vs ++ ws) out ∙ ap (λ z. over (vs ++ z) out) e);
+          (next-over 8 out l vs ws ys first (sym n) (omega arith) (told-all ws (take (length l - 8) (drop 8 l)) b ys u room)
+          ∙ ap (λ z. over (vs ++ z) out) e);
     }
-
--- the numbers of a closed record
-pub closed-told : (ws : List ℕ) (r : Reassembler) (out : List ℕ) (x : ℕ) (out′ : List ℕ) → ws ≡ recordNumbers r → r ≡ Closed
-    → Answers (length ws) (is ws) out x out′ → Answers 6 (is (recordNumbers Closed)) out x out′
-closed-told ws r out x out′ e f a = subst (λ z. Answers (length z) (is z) out x out′) (e ∙ ap recordNumbers f) a
 
 -- the data of a command of length n, copied
 pub data-copied : (n : ℕ) (k : Command) (d room to out : List ℕ) (x : ℕ) (to′ out′ : List ℕ) → k ≡ ofLength n → d ≡ take (k .len) room

@@ -3,20 +3,18 @@ use Prim.Native.Nat.{ℕ}
 use mathlib.Core.Path.{_≡_, _∙⁻¹_}
 use mathlib.Core.List.{List}
 use lib.ListN.{take}
-use Rattle.basis.specs.Reply.{Reply, is}
+use Rattle.basis.specs.Reply.{Reply}
 use Rattle.reassembler.specs.declared.Reassembler.{Reassembler}
-use Rattle.reassembler.specs.declared.Reassembler.the-variants.{Closed}
 use Rattle.tell.proofs.Single.{one, copy}
-use Rattle.exports_reassembler.specs.Numbers.{recordNumbers, joinedBy, PieceJoined, reset-is, JoinedData}
+use Rattle.exports_reassembler.specs.Numbers.{joinedBy, PieceJoined, reset-is, JoinedData}
 
 pub gorvisclen-join : (x : Reply Reassembler) (s room out : List ℕ) (r q : ℕ) (a b o p : List ℕ) → PieceJoined x s room out r a o
     → PieceJoined x s room out q b p → (r ≡ q) × (a ≡ b) × (o ≡ p)
 gorvisclen-join x s room out r q a b o p h g =
     let t = one 14 (joinedBy x room s) out r q o p (h .says) (g .says) in (t .0, h .bytes ∙⁻¹ g .bytes, t .1)
 
-pub gorvisclen-reset : (o c i p q n : ℕ) (out : List ℕ) (r r′ : ℕ) (a a′ : List ℕ) → reset-is o c i p q n out r a
-    → reset-is o c i p q n out r′ a′ → (r ≡ r′) × (a ≡ a′)
-gorvisclen-reset o c i p q n = one 6 (is (recordNumbers Closed))
+pub gorvisclen-reset : (o c i p q n r s : ℕ) → reset-is o c i p q n r → reset-is o c i p q n s → r ≡ s
+gorvisclen-reset o c i p q n r s h g = h ∙⁻¹ g
 
 pub gorvisclen-joined-data : (n : ℕ) (room to out : List ℕ) (r q : ℕ) (a b x y : List ℕ) → JoinedData n room to out r a x
     → JoinedData n room to out q b y → (r ≡ q) × (a ≡ b) × (x ≡ y)

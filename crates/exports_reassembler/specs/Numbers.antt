@@ -72,13 +72,14 @@ pub record PieceJoined (x : Reply Reassembler) (s room out : List ℕ) (r : ℕ)
   pub says : Answers 14 (joinedBy x room s) out r out′
   pub bytes : room′ ≡ roomAfter (fitting 14 (length out) (joinedBy x room s)) (roomBy x room s) room
 
--- how much of a room of n bytes a piece may use where m numbers are lent: nothing where they are too few
-abbrev pub usableOf : ℕ → ℕ → ℕ
-usableOf n m = cond (ltb m 14) 0 n
+-- the first number of a record: whether a chain is open
+abbrev pub openedNumber : Reassembler → ℕ
+openedNumber Closed = 0
+openedNumber (Open h) = 1
 
 -- the promise of `gorvisclen_reset`: it always succeeds, and no chain is open
-abbrev pub reset-is : ℕ → ℕ → ℕ → ℕ → ℕ → ℕ → List ℕ → ℕ → List ℕ → Type 0
-reset-is o c i p q n out x out′ = Answers 6 (is (recordNumbers Closed)) out x out′
+abbrev pub reset-is : ℕ → ℕ → ℕ → ℕ → ℕ → ℕ → ℕ → Type 0
+reset-is o c i p q n x = x ≡ openedNumber Closed
 
 -- the promise of `gorvisclen_joined_data`: the first n bytes of the room, or all where it has fewer, copied and counted
 abbrev pub JoinedData : ℕ → List ℕ → List ℕ → List ℕ → ℕ → List ℕ → List ℕ → Type 0

@@ -6,7 +6,7 @@ ghost use Rattle.basis.specs.Reply.{is};
 ghost use Rattle.reassembler.specs.Join.{said, closed-is};
 ghost use Rattle.tell.specs.Answers.{Answers};
 ghost use Rattle.exports_reassembler.specs.Numbers.{saidRecord, recordNumbered, heldNumbers, recordNumbers, givenNumbers};
-ghost use Rattle.exports_reassembler.specs.Numbers.{telling, metBy, usableOf, PieceJoined, reset-is, JoinedData};
+ghost use Rattle.exports_reassembler.specs.Numbers.{openedNumber, telling, metBy, PieceJoined, reset-is, JoinedData};
 use class::Class;
 use class::FromByte;
 use command::Command;
@@ -17,6 +17,7 @@ use reassembler::Joining;
 use reassembler::Reassembler;
 use tell::refuse;
 use tell::tell;
+use tell::usable;
 
 enum Numbered {
     Chain(Reassembler),
@@ -105,13 +106,6 @@ fn tell_joined(answer: Joining, chain: Reassembler, out: &mut [u64]) -> u8
     }
 }
 
-// How much of the room a piece may use: nothing where so many numbers are too few for the answer.
-fn usable(room: usize, given: usize) -> usize
-    ensures { λ r. ⌜ r ≡ usableOf room given ⌝ }
-{
-    if given < 14 { 0 } else { room }
-}
-
 // Joins a piece, and tells 14 numbers: 1 and the 7 of the command, or zeros for "more"; then the six of the record behind it.
 #[no_mangle]
 pub extern "C" fn gorvisclen_join(
@@ -134,7 +128,7 @@ pub extern "C" fn gorvisclen_join(
     match record_numbered(opened, class, instruction, p1, p2, held) {
         Numbered::Refused(k) => refuse(k, out.len(), 14),
         Numbered::Chain(before) => {
-            let end = usable(room.len(), out.len());
+            let end = usable(room.len(), out.len(), 14);
             let joined = before.join(piece, &mut room[..end]);
             let answer = joined.answer;
             let rest = joined.rest;
@@ -153,7 +147,17 @@ fn closed(record: Numbered) -> Reassembler
     }
 }
 
-// Tells the six numbers of a closed record, whatever the record was.
+// The first of a record's numbers.
+fn opened_number(chain: Reassembler) -> u8
+    ensures { λ r. ⌜ r ≡ openedNumber chain ⌝ }
+{
+    match chain {
+        Reassembler::Closed => 0,
+        Reassembler::Open(_) => 1,
+    }
+}
+
+// Replies the first number of the record after a reset, which is 0 whatever the record was: no chain is open, and no other number counts.
 #[no_mangle]
 pub extern "C" fn gorvisclen_reset(
     opened: u8,
@@ -162,13 +166,12 @@ pub extern "C" fn gorvisclen_reset(
     p1: u8,
     p2: u8,
     held: usize,
-    out: &mut [u64],
 ) -> u8
-    ensures { λ r. ⌜ reset-is opened class instruction p1 p2 held (now (out .entry)) r (now (out .exit)) ⌝ }
+    ensures { λ r. ⌜ reset-is opened class instruction p1 p2 held r ⌝ }
 {
     let before = record_numbered(opened, class, instruction, p1, p2, held);
-    let numbers = record_numbers(closed(before));
-    tell(&numbers, out)
+    let after = closed(before);
+    opened_number(after)
 }
 
 // Copies the joined data from the front of the room to the front of `to`, and tells their length.

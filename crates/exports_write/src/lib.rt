@@ -1,6 +1,7 @@
 // What a host program calls of the crate `tlv_write`. It replies 0, or the number of a refusal of document 01.
 ghost use mathlib.Core.List.{[], _∷_};
 ghost use Rattle.exports_write.specs.Objects.{ObjectWritten};
+use tell::usable;
 use tlv_write::PutDataObject;
 use tlv_write::put_data_object;
 
@@ -18,10 +19,8 @@ pub extern "C" fn gorvisclen_put_data_object(
     ensures { λ r. ⌜ ObjectWritten (b1 ∷ b2 ∷ b3 ∷ []) (now (value .entry)) at (now (buffer .entry)) (now (out .entry)) r
         (now (buffer .exit)) (now (out .exit)) ⌝ }
 {
-    if out.len() < 1 {
-        return 16;
-    }
-    match put_data_object([b1, b2, b3], value, buffer, at) {
+    let end = usable(buffer.len(), out.len(), 1);
+    match put_data_object([b1, b2, b3], value, &mut buffer[..end], at) {
         PutDataObject::Refused(k) => k,
         PutDataObject::Written(n) => {
             out[0] = n as u64;

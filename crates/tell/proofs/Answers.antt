@@ -3,11 +3,13 @@ use Prim.Native.Nat.{ℕ, _≤_, _<_}
 use mathlib.Core.Path.{_≡_, refl}
 use mathlib.Core.Bool.{Bool, true, false, cond}
 use mathlib.Core.List.{List, [], _∷_}
+use native.Mathlib.Omega.{arith}
+use lib.Dec.{ltb}
 use lib.ListN.{length}
 use borrow.Author.Tests.{lt-ltb, le-ltb}
 use Rattle.basis.specs.Reply.{Reply, is, no, then}
 use Rattle.basis.specs.Part.{over}
-use Rattle.tell.specs.Answers.{atMost16, short, refuse-is, Answers, unlessRefused, NumbersOf}
+use Rattle.tell.specs.Answers.{atMost16, short, refuse-is, usableOf, Answers, unlessRefused, NumbersOf}
 use Rattle.tell.specs.declared.Numbers.{Numbers}
 
 -- a refusal, for a slice too short or not
@@ -51,3 +53,11 @@ module _ {A : Type 0} (f g : A → ℕ) where
       → unlessRefused (r .0) (r .1 ∷ r .2 ∷ r .3 ∷ []) ≡ then x (λ a. is (f a ∷ g a ∷ e a ∷ []))
   of-three e (is a) r h = rw (h .told, h .first, h .second, h .third)
   of-three e (no k) r h = rw (h .told, h .refusal)
+
+-- what may be used is a part of the bytes
+usable-by : (b : Bool) (n : ℕ) → cond b 0 n ≤ n
+usable-by true n = omega arith
+usable-by false n = omega arith
+
+pub usable-le : (n m k : ℕ) {r : ℕ} → r ≡ usableOf n m k → r ≤ n
+usable-le n m k e = rw e (usable-by (ltb m k) n)

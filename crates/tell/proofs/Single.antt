@@ -5,7 +5,7 @@ use mathlib.Core.Bool.{Bool}
 use mathlib.Core.List.{List}
 use lib.ListN.{length}
 use Rattle.basis.specs.Reply.{Reply, is, no}
-use Rattle.tell.specs.Answers.{Answers, unlessRefused, CopiedBy, refuse-is, flag-is}
+use Rattle.tell.specs.Answers.{Answers, unlessRefused, CopiedBy, refuse-is, usable-is, flag-is}
 
 -- two answers with the m numbers of one reply
 abbrev pub One : ℕ → Reply (List ℕ) → Type 0
@@ -34,6 +34,9 @@ copy d = one-copy (is d)
 
 pub refuse : (k n m r s : ℕ) → refuse-is k n m r → refuse-is k n m s → r ≡ s
 refuse k n m r s p q = p ∙⁻¹ q
+
+pub usable : (n m k r s : ℕ) → usable-is n m k r → usable-is n m k s → r ≡ s
+usable n m k r s p q = p ∙⁻¹ q
 
 pub flag : (b : Bool) (r s : ℕ) → flag-is b r → flag-is b s → r ≡ s
 flag b r s p q = p ∙⁻¹ q

@@ -27,6 +27,13 @@ fitting m n x = cond (ltb n m) (short x) x
 abbrev pub refuse-is : ℕ → ℕ → ℕ → ℕ → Type 0
 refuse-is k n m r = r ≡ cond (ltb n m) (atMost16 k) k
 
+-- the promise of `usable`: of n bytes all, or none where m numbers are lent and more are wanted
+abbrev pub usableOf : ℕ → ℕ → ℕ → ℕ
+usableOf n m k = cond (ltb m k) 0 n
+
+abbrev pub usable-is : ℕ → ℕ → ℕ → ℕ → Type 0
+usable-is n m k r = r ≡ usableOf n m k
+
 -- the slice after a reply
 abbrev pub outAfter : Reply (List ℕ) → List ℕ → List ℕ
 outAfter (is vs) out = over vs out

@@ -1,6 +1,6 @@
 // How the exported functions answer a host: a status, and numbers at the front of a lent slice.
 ghost use Rattle.basis.specs.Reply.{is};
-ghost use Rattle.tell.specs.Answers.{Answers, unlessRefused, Copied, refuse-is, flag-is};
+ghost use Rattle.tell.specs.Answers.{Answers, unlessRefused, Copied, refuse-is, usable-is, flag-is};
 ghost use lib.ListN.{length};
 
 // An answer as numbers: its refusal, 0 where it has none, and up to three numbers that it tells then.
@@ -32,6 +32,13 @@ pub fn refuse(k: u8, given: usize, wanted: usize) -> u8
         return k;
     }
     k
+}
+
+// How much of so many bytes a function may use that wants so many numbers: nothing where the slice given is too short for them.
+pub fn usable(len: usize, given: usize, wanted: usize) -> usize
+    ensures { λ r. ⌜ usable-is len given wanted r ⌝ }
+{
+    if given < wanted { 0 } else { len }
 }
 
 // Tells numbers where the refusal given is 0; otherwise replies its status.

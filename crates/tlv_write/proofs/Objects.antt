@@ -1,10 +1,13 @@
 -- Laws of an object written from a place. Assumes nothing.
 use Prim.Native.Nat.{ℕ, _+_, _≤_, _<_}
 use mathlib.Core.Path.{_≡_, _∙_}
-use mathlib.Core.List.{List, _++_}
+use mathlib.Core.Bool.{Bool, true, false, cond}
+use mathlib.Core.List.{List, [], _∷_, _++_}
 use native.Mathlib.Omega.{arith}
 use borrow.Author.Tests.{lt-ltb, le-ltb}
+use lib.Dec.{leb}
 use lib.ListN.{length, length-append}
+use Rattle.basis.specs.Number.{be}
 use Rattle.basis.specs.Part.{put}
 use Rattle.tlv_write.specs.Written.{tagBytes, lenBytes, objectBytes, putOf, put-data-object-is}
 use Rattle.tlv_write.specs.Shown.{shown, Shows}
@@ -36,3 +39,15 @@ module _ (t v b : List ℕ) (at : ℕ) where
         let n = le-ltb 65535 (length v) h in
         let m = le-ltb _ _ g in
         record { reply = rw (n, size, m); buffer = e ∙ rw (n, size, m, tag .bytes, len .bytes) }
+
+-- an object has a byte at least
+len-some : (n : ℕ) (b c : Bool) → 1 ≤ length (cond b (n ∷ []) (cond c (0x81 ∷ n ∷ []) (0x82 ∷ be 2 n)))
+len-some n true c = omega arith
+len-some n false true = omega arith
+len-some n false false = omega arith
+
+pub object-some : (t v : List ℕ) → 1 ≤ length (objectBytes t v)
+unfolding objectBytes lenBytes
+object-some t v =
+    let n = length v in
+    simp length-append (omega (arith, len-some n (leb n 0x7F) (leb n 0xFF)))

@@ -26,11 +26,14 @@ lenBytes n = cond (leb n 0x7F) (n ∷ []) (cond (leb n 0xFF) (0x81 ∷ n ∷ [])
 unfoldable pub objectBytes : List ℕ → List ℕ → List ℕ
 objectBytes t v = (tagBytes t ++ lenBytes (length v)) ++ v
 
+-- what follows for a value of n bytes: 19 where it is above 65,535
+abbrev pub unlessOver : {A : Type 0} → ℕ → Reply A → Reply A
+unlessOver n x = cond (ltb 65535 n) (no 19) x
+
 -- how many bytes are written from a place of a buffer of m bytes: 19 before 16
 unfoldable pub putOf : ℕ → ℕ → List ℕ → List ℕ → Reply ℕ
 putOf at m t v =
-    cond (ltb 65535 (length v)) (no 19)
-    (cond (ltb m (at + length (objectBytes t v))) (no 16) (is (length (objectBytes t v))))
+    unlessOver (length v) (cond (ltb m (at + length (objectBytes t v))) (no 16) (is (length (objectBytes t v))))
 
 -- the buffer after it: bytes before and behind stay, and a refusal changes nothing
 abbrev pub bufferAfter : Reply ℕ → ℕ → List ℕ → List ℕ → List ℕ → List ℕ

@@ -10,7 +10,7 @@ mod steps;
 
 use std::ops::Range;
 
-use gorvisclen::{Reassembler, JOIN_NUMBERS, STATE_NUMBERS};
+use gorvisclen::{Reassembler, JOIN_NUMBERS};
 
 use self::model::BIT;
 use crate::inputs::Inputs;
@@ -155,10 +155,7 @@ fn sequences(tally: &mut Tally, inputs: &mut Inputs, turns: Range<usize>) {
         for _ in 0..12 {
             match inputs.below(24) {
                 0 => record = any_record(inputs, header, room_len),
-                1 => {
-                    let len = some_numbers(inputs, STATE_NUMBERS);
-                    record = steps::reset(tally, record, len);
-                }
+                1 => record = steps::reset(tally, record),
                 2 => {
                     let joined = around(inputs, record.held.min(room_len));
                     let to_len = around(inputs, joined);

@@ -5,7 +5,7 @@ use crate::{reply, Reply};
 /// How many numbers `Reassembler::join` writes.
 pub const JOIN_NUMBERS: usize = 14;
 
-/// How many numbers a record is, as `Reassembler::reset` writes it.
+/// How many numbers a record is, as `Reassembler::join` writes it behind the answer.
 pub const STATE_NUMBERS: usize = 6;
 
 // A slice passes as its pointer and its length.
@@ -31,8 +31,6 @@ extern "C" {
         p1: u8,
         p2: u8,
         held: usize,
-        out: *mut u64,
-        out_len: usize,
     ) -> u8;
     fn gorvisclen_joined_data(
         len: usize,
@@ -97,22 +95,16 @@ impl Reassembler {
         })
     }
 
-    /// Forgets an open chain: the six numbers of the record after it. Refusal, of every record: 16.
+    /// Forgets an open chain: the record after it, which is closed. It always succeeds.
     #[inline]
-    pub fn reset(self, out: &mut [u64]) -> Reply {
+    pub fn reset(self) -> Reassembler {
         let [class, instruction, p1, p2] = self.header;
-        reply(unsafe {
-            gorvisclen_reset(
-                self.opened,
-                class,
-                instruction,
-                p1,
-                p2,
-                self.held,
-                out.as_mut_ptr(),
-                out.len(),
-            )
-        })
+        let opened =
+            unsafe { gorvisclen_reset(self.opened, class, instruction, p1, p2, self.held) };
+        Reassembler {
+            opened,
+            ..Reassembler::CLOSED
+        }
     }
 }
 

@@ -156,7 +156,7 @@ pub fn value(reading: u8, record: &[u8], path: &[u32], to: &mut [u8], out: &mut 
 
 /// Writes an object into `buffer` from the place `at`: the bytes of its tag, without the zero bytes in front (the last byte
 /// stays); the shortest length; the value. Writes one number: how many bytes these are.
-/// Refusals: 19; 16 where they do not fit, for every `at`. Where `out` is too short it is 16, before 19.
+/// Refusals: 19; then 16 where they do not fit, for every `at`, and where `out` is too short.
 #[inline]
 pub fn put_data_object(
     tag: [u8; 3],

@@ -3,23 +3,26 @@ use mathlib.Core.Path.{sym, ap, _∙_}
 use lib.ListN.{length}
 use lib.Seq.{length-take-le}
 use native.Mathlib.Omega.{arith}
+use Rattle.tell.proofs.Answers.{usable-le}
 use Rattle.exports_reassembler.specs.Numbers.{saidRecord}
-use Rattle.exports_reassembler.proofs.Laws.{usable-le, under-four, no-record, joined}
+use Rattle.exports_reassembler.proofs.Laws.{under-four, no-record, joined}
 use Rattle.exports_reassembler.proofs.gorvisclen_join.Statement.{statement}
 use Rattle.exports_reassembler.proofs.gorvisclen_join.Tie as tie
 
 returns : tie.Need-returns
-returns c = under-four _ _ _ _ (c .if1 .taken)
+returns c =
+    let s = c .before .before .before .before .args .piece .now in
+    under-four _ s _ _ (omega (arith, c .if1 .taken))
 
 slice-relend-prefix-join : tie.Need-slice-relend-prefix-join
 slice-relend-prefix-join c =
     let a = c .before .before .before .before .before .before .before .before .before .args in
-    usable-le (length (a .room .now)) (length (a .out .now)) (c .usable .ensures)
+    usable-le (length (a .room .now)) (length (a .out .now)) 14 (c .usable .ensures)
 
 slice-aggregate-join : tie.Need-slice-aggregate-join
 slice-aggregate-join c =
     let a = c .before .before .before .before .before .before .before .before .before .before .args in
-    sym (length-take-le _ (a .room .now) (usable-le (length (a .room .now)) (length (a .out .now)) (c .before .usable .ensures)))
+    sym (length-take-le _ (a .room .now) (usable-le (length (a .room .now)) (length (a .out .now)) 14 (c .before .usable .ensures)))
 
 returns-2 : tie.Need-returns-2
 returns-2 c =

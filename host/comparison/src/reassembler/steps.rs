@@ -1,9 +1,9 @@
 //! One call each, compared with the model.
 
-use gorvisclen::{Reassembler, Refused, JOIN_NUMBERS, STATE_NUMBERS};
+use gorvisclen::{Reassembler, Refused, JOIN_NUMBERS};
 
 use super::model;
-use crate::lent::{bytes, demanded, hex, left, numbers, or_short, Lent, Outcome};
+use crate::lent::{bytes, hex, numbers, or_short, Lent, Outcome};
 use crate::tally::Tally;
 
 const MORE: &str = "Reassembler::join, more (no Rust: held to a model)";
@@ -51,16 +51,15 @@ pub fn join(
     rest
 }
 
-/// Compares a reset.
-pub fn reset(tally: &mut Tally, record: Reassembler, len: usize) -> Reassembler {
-    let theirs = demanded(Ok([0; STATE_NUMBERS]), numbers(len));
-    let ours = left(numbers(len), |out| record.reset(out));
-    let input = || format!("{record:?}, out of {len} numbers");
-    tally.compare(RESET, &[], input, &theirs, &ours);
-    match len {
-        STATE_NUMBERS.. => Reassembler::CLOSED,
-        _ => record,
-    }
+/// Compares a reset: it succeeds with every record, and no chain is open after it.
+pub fn reset(tally: &mut Tally, record: Reassembler) -> Reassembler {
+    let nothing = |reply| Outcome::new(reply, numbers(0), bytes(0));
+    let ours = match record.reset() {
+        Reassembler::CLOSED => nothing(Ok(())),
+        open => nothing(Err(Refused(open.opened))),
+    };
+    tally.compare(RESET, &[], || format!("{record:?}"), &nothing(Ok(())), &ours);
+    Reassembler::CLOSED
 }
 
 /// Compares the copy of a command's data.

@@ -99,6 +99,8 @@ impl Object<'_> {
         let read = [&self.tag, self.value];
         let (mut buffer, mut out) = (bytes(buffer_len), numbers(len));
         let reply = match len {
+            // 19 comes before 16 here too.
+            0 if self.too_long() => Err(19),
             0 => Err(16),
             _ => self.write_by_rust(buffer.part(), at),
         };
