@@ -2,18 +2,21 @@
 use Prim.Native.Nat.{ℕ}
 use mathlib.Core.Path.{_≡_, refl, sym, ap, _∙_, subst}
 use mathlib.Core.Bool.{Bool, true, false, cond}
-use mathlib.Core.List.{List, _++_, flatten}
+use mathlib.Core.List.{List, [], _++_, flatten}
 use mathlib.Core.Option.{Option, none, some}
 use native.Mathlib.Omega.{arith}
+use borrow.Author.Tests.{le-ltb}
 use lib.Dec.{ltb}
 use lib.ListN.{length, take}
 use Rattle.basis.specs.Reply.{Reply, is, no}
+use Rattle.basis.specs.Part.{over}
 use Rattle.basis.proofs.Reply.{no-is}
 use Rattle.listing.specs.Text.{linesOf, textOf}
-use Rattle.listing.specs.Lines.{Given, stepOf, lineIn, textIn, bufferAfter}
+use Rattle.listing.specs.Lines.{Given, stepOf, lineIn, textIn, bufferAfter, next-line-is}
 use Rattle.listing.specs.declared.lines.Lines.{Lines}
 use Rattle.listing.specs.declared.lines.Lines.the-variants as lines
 use Rattle.listing.specs.declared.lines.Line.{Line}
+use Rattle.listing.specs.declared.lines.NextLine.the-variants as next
 use Rattle.listing.proofs.Making.{front}
 use Rattle.listing_laws.specs.Run.{Run, end, more, Seen, none-left, line, again, Reached, start, behind}
 use Rattle.listing_laws.proofs.Listed.{listed}
@@ -75,6 +78,23 @@ seen-run {s} {st} (line {before = before} {after = after} {l = l} {text = t} p q
     let same : w .step ≡ g = same-given _ _ (sym (w .there) ∙ ap (λ (x : Lines). stepOf x s) e ∙ h) in
     let further : t ≡ flatten ls = seen-run q (w .rest ∙ ap (λ (x : Given). x .rest) same) r in
     ap (λ (x : List ℕ). x ++ t) (w .text ∙ ap (λ (x : Given). x .text) same) ∙ ap (λ (x : List ℕ). g .text ++ x) further
+
+-- there is such a caller: with a buffer as long as each line it sees all of a run
+run-seen : {s : List ℕ} {st : Lines} {ls : List (List ℕ)} → Run s st ls → Seen s st (flatten ls)
+unfolding flatten
+run-seen {s} (end {st = st} h) =
+    let answer : next-line-is st s [] next.NoneLeft [] = record { reply = rw h; buffer = rw h } in
+    none-left {st = st} {before = []} {after = []} answer
+run-seen {s} (more {st = st} {g = g} {ls = ls} h r) =
+    let v = g .text in
+    let fits = le-ltb (length v) (length v) (omega arith) in
+    let l : Line = record { len = length v; rest = g .rest } in
+    let answer : next-line-is st s v (next.Line l) (over v v) = record { reply = rw (h, fits); buffer = rw (h, fits) } in
+    subst (λ (x : List ℕ). Seen s st (x ++ flatten ls)) (front v v) (line {before = v} {after = over v v} {l = l} answer (run-seen r))
+
+pub text-seen : (s : List ℕ) → Seen s lines.Start (textOf s)
+unfolding textOf
+text-seen s = run-seen (listed s)
 
 -- the text, for every input and all buffers
 pub seen : (s text : List ℕ) → Seen s lines.Start text → text ≡ textOf s
