@@ -1,11 +1,13 @@
 -- What was read lies within the bytes that it was read in. Assumes nothing.
 use Prim.Native.Nat.{ℕ, zero, suc, _+_, _-_, _%_, _≤_}
+use mathlib.Core.Path.{_≡_}
 use mathlib.Core.List.{List, [], _∷_}
 use native.Mathlib.Omega.{arith}
 use lib.Dec.{ltb, leb, eqb}
 use lib.ListN.{length, getD, drop, length-drop, length-take}
 use borrow.Author.Tests.{leb-true, ltb-false}
-use Rattle.basis.proofs.Reply.{All, all-cond, all-then, all-weaken}
+use Rattle.basis.specs.Reply.{is}
+use Rattle.basis.proofs.Reply.{All, all-is, all-cond, all-then, all-weaken}
 use Rattle.tlv.specs.Tag.{Tag, sizeBy, thirdBy, threeBytes, longTag, tagOf}
 use Rattle.tlv.specs.Len.{Len, lenTo82, lenOf}
 use Rattle.tlv.specs.Object.{Object, sizeOf, objectOf}
@@ -100,3 +102,17 @@ follow-within r s p (t ∷ path) h =
 
 pub lookup-within : (r : Reading) (s path : List ℕ) → All (Lies 0 (length s)) (lookup r s path)
 lookup-within r s path = follow-within r s (whole s) path (omega arith)
+
+-- the same in plain places: a tag, an object and a value that were read lie in those bytes
+module _ (r : Reading) (s : List ℕ) where
+  pub tag-inside : (t : Tag) → tagOf r s ≡ is t → (1 ≤ t .size) × (t .size ≤ length s)
+  tag-inside t e = omega (arith, all-is (Tagged (length s)) (tagOf r s) t (tag-within r s) e)
+
+  pub object-inside : (o : Object) → objectOf r s ≡ is o → (1 ≤ o .at) × (o .at + o .len ≤ length s)
+  object-inside o e = omega (arith, all-is (Ends (length s)) (objectOf r s) o (object-within r s) e)
+
+  pub seek-inside : (t a : ℕ) (p : Span) → seek r t a s ≡ is p → (a ≤ p .at) × (p .at + p .len ≤ a + length s)
+  seek-inside t a p e = omega (arith, all-is (Lies a (a + length s)) (seek r t a s) p (seek-within r t a s) e)
+
+  pub lookup-inside : (path : List ℕ) (p : Span) → lookup r s path ≡ is p → p .at + p .len ≤ length s
+  lookup-inside path p e = omega (arith, all-is (Lies 0 (length s)) (lookup r s path) p (lookup-within r s path) e)
