@@ -13,7 +13,7 @@ use Rattle.basis.proofs.Reply.{All, all-is, all-cond, all-then, all-weaken, the
 use Rattle.tlv.specs.Object.{sizeOf, objectOf}
 use Rattle.tlv.specs.Lookup.{Span, part, whole, seekIn, seek, follow, lookup}
 use Rattle.tlv.specs.declared.Reading.{Reading}
-use Rattle.tlv.proofs.Within.{Ends, Lies, object-within, seek-within, lookup-within}
+use Rattle.tlv.proofs.Within.{Lies, seek-within, object-inside, seek-inside, lookup-inside}
 use Rattle.tlv.proofs.Walk.{seek-here, seek-next}
 use Rattle.tlv_laws.proofs.Choice.{by-reply, all-self, all-both}
 use Rattle.tlv_laws.proofs.Front.{front-less, front-rest, object-front}
@@ -30,7 +30,7 @@ module _ (r : Reading) (t : ℕ) where
   walk-front zero a s = tt
   walk-front (suc n) a s =
       all-then (Kept a s) (λ o. objectOf r s ≡ is o) (objectOf r s) _ (all-self (objectOf r s)) (λ o e.
-      let w = all-is (Ends (length s)) (objectOf r s) o (object-within r s) e in
+      let w = object-inside r s o e in
       let k = sizeOf o in
       all-cond (Kept a s) (eqb (o .tag) t) _ _
       (λ h. (
@@ -79,7 +79,7 @@ module _ (r : Reading) (s s′ : List ℕ) (long : length s ≤ length s′) whe
       let x = seek r t a (b s) in
       let P : Span → Type 0 = λ q. take (q .at) s′ ≡ take (q .at) s → then (seek r t a (b s′)) (λ m. follow r s′ m path) ≡ is q in
       all-then P (λ m. x ≡ is m) x (λ m. follow r s m path) (all-self x) (λ m e.
-      let l = all-is (Lies a (a + length (b s))) x m (seek-within r t a (b s)) e in
+      let l = seek-inside r (b s) t a m e in
       let L = Lies (m .at) (m .at + m .len) in
       let N : Span → Type 0 = λ q. take (q .at) s′ ≡ take (q .at) s → follow r s′ m path ≡ is q in
       all-weaken P (λ q. L q × N q) (follow r s m path) (λ q w f.
@@ -108,13 +108,13 @@ module _ (r : Reading) (s s′ : List ℕ) (long : length s ≤ length s′) whe
 -- bytes behind what was searched change nothing once there is a match: at one level, and along a path
 pub behind-unseen : (r : Reading) (t a : ℕ) (s u : List ℕ) (p : Span) → seek r t a s ≡ is p → seek r t a (s ++ u) ≡ is p
 behind-unseen r t a s u p e =
-    let l = all-is (Lies a (a + length s)) (seek r t a s) p (seek-within r t a s) e in
+    let l = seek-inside r s t a p e in
     seek-front r t a s (s ++ u) p e (take-append-le (p .at - a) s u (omega arith)) (simp length-append (omega arith))
 
 pub path-behind-unseen : (r : Reading) (s u : List ℕ) (t : ℕ) (path : List ℕ) (p : Span) → lookup r s (t ∷ path) ≡ is p
     → lookup r (s ++ u) (t ∷ path) ≡ is p
 path-behind-unseen r s u t path p e =
-    let l = all-is (Lies 0 (length s)) (lookup r s (t ∷ path)) p (lookup-within r s (t ∷ path)) e in
+    let l = lookup-inside r s (t ∷ path) p e in
     lookup-front r s (s ++ u) (simp length-append (omega arith)) t path p e (take-append-le (p .at) s u (omega arith))
 
 -- within a part that has the same bytes, a path is followed the same way, found or refused
@@ -135,7 +135,7 @@ pub entered-behind-unseen : (r : Reading) (s s′ : List ℕ) (t : ℕ) (path : 
     → take (q .at + q .len) s′ ≡ take (q .at + q .len) s → lookup r s′ (t ∷ path) ≡ lookup r s (t ∷ path)
 unfolding follow
 entered-behind-unseen r s s′ t path q e same =
-    let l = all-is (Lies 0 (length s)) (seek r t 0 s) q (rw zero-add at (seek-within r t 0 s)) e in
+    let l = seek-inside r s t 0 q e in
     let n = q .at + q .len in
     let room : n ≤ length s′ = omega (arith, ap length same, length-take n s, length-take n s′) in
     rw (
@@ -146,7 +146,7 @@ entered-behind-unseen r s s′ t path q e same =
     ) (follow-entered r s s′ path q same)
 
 -- a path in two parts: the second is followed from the value found by the first
-follow-append : (r : Reading) (s : List ℕ) (p : Span) (path rest : List ℕ)
+pub follow-append : (r : Reading) (s : List ℕ) (p : Span) (path rest : List ℕ)
     → follow r s p (path ++ rest) ≡ then (follow r s p path) (λ q. follow r s q rest)
 unfolding follow
 follow-append r s p [] rest = refl

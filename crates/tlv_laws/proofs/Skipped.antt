@@ -4,33 +4,35 @@ use Prim.Native.Nat.{ℕ, zero, suc, _+_, _≤_, _<_}
 use mathlib.Core.Path.{_≡_, refl, sym, ap, _∙_}
 use mathlib.Core.Bool.{true, false, cond}
 use mathlib.Core.List.{List, [], _∷_, _++_, append-nil}
-use native.Mathlib.Nat.{zero-add, add-zero, suc-add, add-suc, add-assoc}
+use native.Mathlib.Nat.{zero-add, add-assoc}
 use native.Mathlib.Omega.{arith}
-use lib.Dec.{eqb}
+use lib.Dec.{ltb, eqb}
 use lib.ListN.{length, getD, take, drop, length-take, length-drop}
 use lib.Seq.{getD-take, getD-drop, ext-getD, length-take-le}
-use borrow.Author.Tests.{ltb-true, lt-ltb, le-ltb, le-leb, lt-leb, ne-eqb}
+use borrow.Author.Tests.{ltb-true, lt-ltb, ne-eqb}
 use Rattle.basis.specs.Reply.{is, no as refused}
-use Rattle.basis.proofs.Reply.{All, all-is, all-weaken, then-same}
+use Rattle.basis.proofs.Reply.{All, all-is, all-weaken, then-same, no-is}
 use Rattle.tlv.specs.Tag.{tagOf}
 use Rattle.tlv.specs.Object.{Object, sizeOf, objectOf}
 use Rattle.tlv.specs.Lookup.{Span, part, whole, seekIn, seek, follow, lookup, valueIn}
 use Rattle.tlv.specs.declared.Reading.{Reading}
-use Rattle.tlv.proofs.Within.{Ends, Lies, object-within, seek-within, lookup-within}
-use Rattle.tlv.proofs.Walk.{seek-next}
-use Rattle.tlv_laws.specs.Value.{ofValue}
+use Rattle.tlv.proofs.Within.{Lies, object-inside, seek-inside, lookup-inside}
 use Rattle.basis.specs.Every.{Every}
 use Rattle.basis.proofs.Every.{every-append, every-weaken}
 use Rattle.tlv_laws.specs.Skipped.{valueAt, passedIn, passedAt, passedFrom, passed, lastFrom, lastEntered, past}
-use Rattle.tlv_laws.specs.Skipped.{covers, coveredBy, fillIn, behind, aside, refill, seen}
-use Rattle.tlv_laws.proofs.Choice.{by-test, by-reply, on-cond, same-cond, neither, second, all-self, all-both}
+use Rattle.tlv_laws.specs.Skipped.{covers, coveredBy, behind, aside, refill, seenTo, seen}
+use Rattle.tlv_laws.proofs.Choice.{by-test, by-reply, on-cond, same-cond, second, all-self, all-both}
 use Rattle.tlv_laws.proofs.Front.{object-front}
 use Rattle.tlv_laws.proofs.Behind.{follow-inside}
+use Rattle.tlv_laws.proofs.Covered.{Before, covers-ahead, covers-behind, uncovered, uncovered-append}
+use Rattle.tlv_laws.proofs.Covered.{covered-first, covered-later, covered-left, covered-right, covered-before, length-fill, byte-fill}
 
--- an object with another tag is passed over whole, whatever its value is
-pub skipped : (r : Reading) (t a : ℕ) (s : List ℕ) (o : Object) → objectOf r s ≡ is o → (o .tag ≡ t → ⊥)
-    → seek r t a s ≡ seek r t (a + sizeOf o) (drop (sizeOf o) s)
-skipped r t a s o e h = seek-next r t a s o e h
+-- the place and the length of a value, as the object tells them
+value-place : (a : ℕ) (o : Object) → valueAt a o ≡ record { at = a + o .at; len = o .len }
+value-place a o =
+    let place : valueAt a o .at ≡ a + o .at = omega arith in
+    let size : valueAt a o .len ≡ o .len = omega arith in
+    λ i. record { at = place i; len = size i }
 
 module _ (r : Reading) (t : ℕ) where
   -- any bound on the objects that is not below the bytes serves
@@ -43,47 +45,22 @@ module _ (r : Reading) (t : ℕ) where
   enough (suc n) zero a (x ∷ s) h g = absurd (omega arith)
   enough (suc n) (suc m) a s h g =
       by-reply (objectOf r s) (λ o e.
-      let w = all-is (Ends (length s)) (objectOf r s) o (object-within r s) e in
+      let w = object-inside r s o e in
       let k = sizeOf o in
       rw e (same-cond (eqb (o .tag) t) _ _ _ _ (λ _. refl) (λ _. ap (λ (qs : List Span). valueAt a o ∷ qs)
       (enough n m (a + k) (drop k s) (simp length-drop (omega arith)) (simp length-drop (omega arith))))))
       (λ k e. rw e)
 
-  -- and its value is one of those passed over
+  -- the value of an object with another tag, by its place and length, is one of those passed over
   pub passed-next : (a : ℕ) (s : List ℕ) (o : Object) → objectOf r s ≡ is o → (o .tag ≡ t → ⊥)
-      → passedAt r t a s ≡ valueAt a o ∷ passedAt r t (a + sizeOf o) (drop (sizeOf o) s)
+      → passedAt r t a s ≡ record { at = a + o .at; len = o .len } ∷ passedAt r t (a + (o .at + o .len)) (drop (o .at + o .len) s)
   unfolding passedAt passedIn
   passed-next a s o e h =
-      let w = all-is (Ends (length s)) (objectOf r s) o (object-within r s) e in
+      let w = object-inside r s o e in
       let k = sizeOf o in
+      let rest = enough (length s) (length (drop k s)) (a + k) (drop k s) (simp length-drop (omega arith)) (omega arith) in
       enough (length s) (suc (length s)) a s (omega arith) (omega arith)
-      ∙ rw (e, ne-eqb (o .tag) t h) (ap (λ (qs : List Span). valueAt a o ∷ qs)
-      (enough (length s) (length (drop k s)) (a + k) (drop k s) (simp length-drop (omega arith)) (omega arith)))
-
--- places outside of a part, and of all parts of a list
-covers-ahead : (q : Span) (i : ℕ) → i < q .at → covers q i ≡ false
-unfolding covers
-covers-ahead q i h = rw (lt-leb (q .at) i h)
-
-covers-behind : (q : Span) (i : ℕ) → q .at + q .len ≤ i → covers q i ≡ false
-unfolding covers
-covers-behind q i h = rw (le-leb (q .at) i (omega arith), le-ltb i (q .at + q .len) h)
-
-within-none : (qs : List Span) (i : ℕ) → Every (λ q. covers q i ≡ false) qs → coveredBy qs i ≡ false
-unfolding coveredBy
-within-none [] i h = refl
-within-none (q ∷ qs) i h = rw (h .0) (within-none qs i (h .1))
-
-within-append : (xs ys : List Span) (i : ℕ) → coveredBy xs i ≡ false → coveredBy ys i ≡ false → coveredBy (xs ++ ys) i ≡ false
-unfolding coveredBy
-within-append [] ys i h g = g
-within-append (q ∷ qs) ys i h g =
-    let n = neither (covers q i) (coveredBy qs i) h in
-    rw (n .0) (within-append qs ys i (n .1) g)
-
--- a part that ends at a place or before it
-abbrev Before : Span → Span → Type 0
-Before p q = q .at + q .len ≤ p .at
+      ∙ rw (e, ne-eqb (o .tag) t h) (λ i. value-place a o i ∷ rest i)
 
 -- two lists with one byte at each of the first k places
 take-same : (k : ℕ) (s s′ : List ℕ) → k ≤ length s → k ≤ length s′ → ((i : ℕ) → i < k → getD s i 0 ≡ getD s′ i 0)
@@ -101,7 +78,7 @@ module _ (r : Reading) (t : ℕ) where
   passed-within zero a s = tt
   passed-within (suc n) a s =
       by-reply (objectOf r s) (λ o e.
-      let w = all-is (Ends (length s)) (objectOf r s) o (object-within r s) e in
+      let w = object-inside r s o e in
       let k = sizeOf o in
       rw e (on-cond (Every (Lies a (a + length s))) (eqb (o .tag) t) _ _ (λ _. tt) (λ _. (
         omega arith,
@@ -115,13 +92,17 @@ module _ (r : Reading) (t : ℕ) where
   passed-before zero a s = tt
   passed-before (suc n) a s =
       by-reply (objectOf r s) (λ o e.
-      let w = all-is (Ends (length s)) (objectOf r s) o (object-within r s) e in
+      let w = object-inside r s o e in
       let k = sizeOf o in
       let P : Span → Type 0 = λ p. (a + k ≤ p .at) × Every (Before p) (passedIn n r t (a + k) (drop k s)) in
       rw e (by-test (eqb (o .tag) t) (λ h. rw h (omega arith)) (λ h.
       rw h (all-weaken _ P (seekIn n r t (a + k) (drop k s)) (λ p f. (omega arith, (omega arith, f .1)))
       (passed-before n (a + k) (drop k s))))))
       (λ k e. rw e tt)
+
+  level-within : (a : ℕ) (s : List ℕ) → Every (Lies a (a + length s)) (passedAt r t a s)
+  unfolding passedAt
+  level-within a s = passed-within (length s) a s
 
   level-before : (a : ℕ) (s : List ℕ) (p : Span) → seek r t a s ≡ is p → Every (Before p) (passedAt r t a s)
   unfolding passedAt seek
@@ -147,7 +128,7 @@ module _ (r : Reading) (t : ℕ) where
         let rest = passedIn n r t (a + k) d in
         rw e (by-test (eqb (o .tag) t) (λ g. rw g (refl, h)) (λ g.
         rw (g, covers-ahead (valueAt a o) i h) (
-          within-none rest i (every-weaken (λ q. covers q i ≡ false) (Lies (a + k) (a + k + length d)) rest
+          uncovered rest i (every-weaken (λ q. covers q i ≡ false) (Lies (a + k) (a + k + length d)) rest
               (λ q l. covers-ahead q i (omega arith)) (passed-within n (a + k) d)),
           all-weaken (λ p. i < p .at) (λ p. (a + k ≤ p .at) × Every (Before p) rest) (seekIn n r t (a + k) d)
               (λ p f. omega arith) (passed-before n (a + k) d),
@@ -164,7 +145,7 @@ module _ (r : Reading) (t : ℕ) where
   level-unseen zero a s s′ long same = refl
   level-unseen (suc n) a s s′ long same =
       by-reply (objectOf r s) (λ o e.
-      let w = all-is (Ends (length s)) (objectOf r s) o (object-within r s) e in
+      let w = object-inside r s o e in
       let k = sizeOf o in
       let head : take (o .at) s′ ≡ take (o .at) s = take-same (o .at) s′ s (omega arith) (omega arith) (λ i h.
       same i (omega arith) (looked-head n a s o (a + i) e (omega arith))) in
@@ -181,27 +162,44 @@ module _ (r : Reading) (t : ℕ) where
   unfolding seek
   seek-unseen a s s′ long same = rw long (level-unseen (length s) a s s′ long same)
 
--- along a path: what is passed over lies behind the start of the part that the path starts from
+-- along a path: an empty one passes over nothing; where the first tag is found, the values of its level are passed over and those
+-- that the rest of the path passes over from the value found on; where it is refused, the values of its level
+module _ (r : Reading) (s : List ℕ) (p : Span) where
+  pub passed-nothing : passedFrom r s p [] ≡ []
+  unfolding passedFrom
+  passed-nothing = refl
+
+  module _ (t : ℕ) (path : List ℕ) where
+    pub passed-found : (q : Span) → seek r t (p .at) (part s p) ≡ is q
+        → passedFrom r s p (t ∷ path) ≡ passedAt r t (p .at) (part s p) ++ passedFrom r s q path
+    unfolding passedFrom
+    passed-found q e = rw e
+
+    pub passed-refused : (k : ℕ) → seek r t (p .at) (part s p) ≡ refused k
+        → passedFrom r s p (t ∷ path) ≡ passedAt r t (p .at) (part s p)
+    unfolding passedFrom
+    passed-refused k e = rw (e, append-nil)
+
+-- what is passed over lies behind the start of the part that the path starts from
 passed-from : (r : Reading) (s : List ℕ) (p : Span) (path : List ℕ) → Every (λ q. p .at ≤ q .at) (passedFrom r s p path)
-unfolding passedFrom passedAt
-passed-from r s p [] = tt
+passed-from r s p [] = rw (passed-nothing r s p) tt
 passed-from r s p (t ∷ path) =
     let b = part s p in
     let F : Span → Type 0 = λ q. p .at ≤ q .at in
-    let x = seek r t (p .at) b in
-    every-append F (passedAt r t (p .at) b) (ofValue x [] (λ q. passedFrom r s q path))
-    (every-weaken F (Lies (p .at) (p .at + length b)) (passedAt r t (p .at) b) (λ q l. l .0)
-    (passed-within r t (length b) (p .at) b))
-    (by-reply x (λ m e.
-    let l = all-is (Lies (p .at) (p .at + length b)) x m (seek-within r t (p .at) b) e in
-    rw e (every-weaken F (λ q. m .at ≤ q .at) (passedFrom r s m path) (λ q h. omega arith) (passed-from r s m path)))
-    (λ k e. rw e tt))
+    let here = passedAt r t (p .at) b in
+    let level : Every F here = every-weaken F (Lies (p .at) (p .at + length b)) here (λ q l. l .0) (level-within r t (p .at) b) in
+    by-reply (seek r t (p .at) b) (λ m e.
+    let l = seek-inside r b t (p .at) m e in
+    let deeper = passedFrom r s m path in
+    rw (passed-found r s p t path m e) (every-append F here deeper level
+    (every-weaken F (λ q. m .at ≤ q .at) deeper (λ q h. omega arith) (passed-from r s m path))))
+    (λ k e. rw (passed-refused r s p t path k e) level)
 
 -- and before the value found
 follow-outside : (r : Reading) (s : List ℕ) (p : Span) (path : List ℕ)
     → All (λ q. Every (Before q) (passedFrom r s p path)) (follow r s p path)
-unfolding passedFrom follow
-follow-outside r s p [] = tt
+unfolding follow
+follow-outside r s p [] = rw (passed-nothing r s p) tt
 follow-outside r s p (t ∷ path) =
     let b = part s p in
     let x = seek r t (p .at) b in
@@ -210,17 +208,45 @@ follow-outside r s p (t ∷ path) =
     let here = passedAt r t (p .at) b in
     let y = follow r s m path in
     let L = Lies (m .at) (m .at + m .len) in
-    rw e (all-weaken (λ q. Every (Before q) (here ++ deeper)) (λ q. L q × Every (Before q) deeper) y (λ q h.
+    rw (e, passed-found r s p t path m e) (all-weaken (λ q. Every (Before q) (here ++ deeper)) (λ q. L q × Every (Before q) deeper) y (λ q h.
     every-append (Before q) here deeper
     (every-weaken (Before q) (Before m) here (λ z f. omega arith) (level-before r t (p .at) b m e)) (h .1))
     (all-both L (λ q. Every (Before q) deeper) y (follow-inside r s m path) (follow-outside r s m path))))
     (λ k e. rw e tt)
 
--- a value found does not lie in a value passed over: each of those ends before it
-pub found-outside : (r : Reading) (s path : List ℕ) (p : Span) → lookup r s path ≡ is p
-    → Every (λ q. q .at + q .len ≤ p .at) (passed r s path)
-found-outside r s path p e =
+lookup-outside : (r : Reading) (s path : List ℕ) (p : Span) → lookup r s path ≡ is p → Every (Before p) (passed r s path)
+lookup-outside r s path p e =
     all-is (λ p. Every (Before p) (passed r s path)) (lookup r s path) p (follow-outside r s (whole s) path) e
+
+-- a value found does not lie in a value passed over: every place of those stands before it
+pub found-outside : (r : Reading) (s path : List ℕ) (p : Span) → lookup r s path ≡ is p → (i : ℕ)
+    → coveredBy (passed r s path) i ≡ true → i < p .at
+found-outside r s path p e i = covered-before p (passed r s path) i (lookup-outside r s path p e)
+
+-- the places passed over by a path: those of its first level, and those from the value on that this level finds
+module _ (r : Reading) (s : List ℕ) (i : ℕ) where
+  pub passed-level : (p : Span) (t : ℕ) (path : List ℕ) → coveredBy (passedAt r t (p .at) (part s p)) i ≡ true
+      → coveredBy (passedFrom r s p (t ∷ path)) i ≡ true
+  passed-level p t path h =
+      let here = passedAt r t (p .at) (part s p) in
+      by-reply (seek r t (p .at) (part s p))
+      (λ q e. rw (passed-found r s p t path q e) (covered-left here (passedFrom r s q path) i h))
+      (λ k e. rw (passed-refused r s p t path k e) h)
+
+  pub passed-deeper : (p : Span) (t : ℕ) (path : List ℕ) (q : Span) → seek r t (p .at) (part s p) ≡ is q
+      → coveredBy (passedFrom r s q path) i ≡ true → coveredBy (passedFrom r s p (t ∷ path)) i ≡ true
+  passed-deeper p t path q e h =
+      rw (passed-found r s p t path q e) (covered-right (passedAt r t (p .at) (part s p)) (passedFrom r s q path) i h)
+
+  -- so from every value that the front of a path leads to
+  pub passed-entered : (front rest : List ℕ) (p q : Span) → follow r s p front ≡ is q → coveredBy (passedFrom r s q rest) i ≡ true
+      → coveredBy (passedFrom r s p (front ++ rest)) i ≡ true
+  unfolding follow
+  passed-entered [] rest p q e h = let same : p ≡ q = cc in rw same h
+  passed-entered (t ∷ front) rest p q e h =
+      by-reply (seek r t (p .at) (part s p))
+      (λ m g. passed-deeper p t (front ++ rest) m g (passed-entered front rest m q (rw g at e) h))
+      (λ k g. absurd (no-is k q (rw g at e)))
 
 -- the part entered last: the value found, and for a refusal the part in which a tag of the path was refused
 last-append : (r : Reading) (s : List ℕ) (p : Span) (path rest : List ℕ)
@@ -251,7 +277,7 @@ last-from r s p (t ∷ path) =
     let b = part s p in
     let x = seek r t (p .at) b in
     by-reply x (λ m e.
-    let l = all-is (Lies (p .at) (p .at + length b)) x m (seek-within r t (p .at) b) e in
+    let l = seek-inside r b t (p .at) m e in
     rw e (omega (arith, last-from r s m path)))
     (λ k e. rw e (omega arith))
 
@@ -263,29 +289,29 @@ module _ (r : Reading) (s : List ℕ) where
 
   module _ (p : Span) (t : ℕ) (path : List ℕ) (i : ℕ) where
     looked-level : i < past p → Looked r t (length (part s p)) (p .at) (part s p) i → LookedFrom p (t ∷ path) i
-    unfolding follow passedFrom passedAt seek coveredBy lastFrom
+    unfolding follow passedAt seek coveredBy lastFrom
     looked-level h l =
         let x = seek r t (p .at) (part s p) in
         let here = passedAt r t (p .at) (part s p) in
         by-reply x (λ m e.
         let f : i < m .at = all-is (λ m. i < m .at) x m (l .1) e in
         let deeper = passedFrom r s m path in
-        rw e (
-          within-append here deeper i (l .0) (within-none deeper i
+        rw (passed-found r s p t path m e, e) (
+          uncovered-append here deeper i (l .0) (uncovered deeper i
               (every-weaken (λ q. covers q i ≡ false) (λ q. m .at ≤ q .at) deeper
               (λ q g. covers-ahead q i (omega arith)) (passed-from r s m path))),
           omega (arith, last-from r s m path),
           all-weaken (λ q. i < q .at) (Lies (m .at) (m .at + m .len)) (follow r s m path) (λ q g. omega arith)
               (follow-inside r s m path),
         ))
-        (λ k e. rw e (within-append here [] i (l .0) refl, h, tt))
+        (λ k e. rw (passed-refused r s p t path k e, e) (l .0, h, tt))
 
     looked-deeper : (m : Span) → seek r t (p .at) (part s p) ≡ is m → m .at ≤ i → LookedFrom m path i → LookedFrom p (t ∷ path) i
-    unfolding follow passedFrom lastFrom
+    unfolding follow lastFrom
     looked-deeper m e h l =
         let here = passedAt r t (p .at) (part s p) in
-        rw e (
-          within-append here (passedFrom r s m path) i (within-none here i (every-weaken (λ q. covers q i ≡ false) (Before m) here
+        rw (passed-found r s p t path m e, e) (
+          uncovered-append here (passedFrom r s m path) i (uncovered here i (every-weaken (λ q. covers q i ≡ false) (Before m) here
               (λ q g. covers-behind q i (omega arith)) (level-before r t (p .at) (part s p) m e))) (l .0),
           l .1,
           l .2,
@@ -310,8 +336,16 @@ module _ (r : Reading) (s : List ℕ) where
         byte s′ i (omega arith) ∙ same (p .at + i) (omega arith) (omega arith) (looked-level p t path (p .at + i) (omega arith) l)
         ∙ sym (byte s i (omega arith))) in
         rw level (then-same (λ m. x ≡ is m) x _ _ (all-self x) (λ m e.
-        let w = all-is (Lies (p .at) (p .at + length b)) x m (seek-within r t (p .at) b) e in
+        let w = seek-inside r b t (p .at) m e in
         follow-unseen path m (omega arith) (λ i g f l. same i (omega arith) (omega arith) (looked-deeper p t path i m e g l))))
+
+-- the place up to which a lookup looks
+module _ (r : Reading) (s path : List ℕ) where
+  to-found : (p : Span) → lookup r s path ≡ is p → seenTo r s path ≡ p .at
+  to-found p e = rw e (omega arith)
+
+  to-refused : (k : ℕ) → lookup r s path ≡ refused k → seenTo r s path ≡ lastEntered r s path .at + lastEntered r s path .len
+  to-refused k e = rw e (omega arith)
 
 -- a lookup depends only on the bytes that it looks at: those outside of the values passed over and before the value found; where it
 -- is refused, before the end of the part entered last
@@ -319,40 +353,63 @@ pub unseen : (r : Reading) (s s′ path : List ℕ) → length s′ ≡ length s
     → ((i : ℕ) → i < length s → seen r s path i ≡ true → getD s′ i 0 ≡ getD s i 0) → lookup r s′ path ≡ lookup r s path
 unseen r s s′ path long same =
     rw long (follow-unseen r s s′ long path (whole s) (omega arith) (λ i _ h l.
-    same i (omega arith) (rw (l .0) (by-reply (lookup r s path)
-    (λ p e. rw e (lt-ltb i (p .at) (all-is (λ q. i < q .at) (lookup r s path) p (l .2) e)))
-    (λ k e. rw e (lt-ltb i (past (lastEntered r s path)) (l .1)))))))
+    let before : i < seenTo r s path = by-reply (lookup r s path)
+    (λ p e. omega (arith, to-found r s path p e, all-is (λ q. i < q .at) (lookup r s path) p (l .2) e))
+    (λ k e. omega (arith, to-refused r s path k e)) in
+    same i (omega arith) (rw (l .0) (lt-ltb i (seenTo r s path) before))))
 
--- other bytes in some parts: the length, and each byte
-pub length-fill : (f : ℕ → ℕ) (qs : List Span) (a : ℕ) (s : List ℕ) → length (fillIn f qs a s) ≡ length s
-unfolding fillIn
-length-fill f qs a [] = refl
-length-fill f qs a (b ∷ s) = ap suc (length-fill f qs (suc a) s)
-
-pub byte-fill : (f : ℕ → ℕ) (qs : List Span) (a : ℕ) (s : List ℕ) (i : ℕ) → i < length s
-    → getD (fillIn f qs a s) i 0 ≡ cond (coveredBy qs (a + i)) (f (a + i)) (getD s i 0)
-unfolding fillIn
-byte-fill f qs a [] i h = absurd (omega arith)
-byte-fill f qs a (b ∷ s) zero h = rw add-zero
-byte-fill f qs a (b ∷ s) (suc i) h = rw (byte-fill f qs (suc a) s i (omega arith), suc-add, add-suc)
-
--- a place that a lookup looks at is not left aside, and neither is a place of the value found
+-- a place that a lookup looks at lies outside of the values passed over, before the value found, and before the end of the part
+-- entered last
 module _ (r : Reading) (s path : List ℕ) where
+  pub seen-only : (i : ℕ) → seen r s path i ≡ true → (coveredBy (passed r s path) i ≡ false)
+      × ((p : Span) → lookup r s path ≡ is p → i < p .at) × (i < lastEntered r s path .at + lastEntered r s path .len)
+  seen-only i h =
+      let g = second (coveredBy (passed r s path) i) (ltb i (seenTo r s path)) h in
+      let before = ltb-true i (seenTo r s path) (g .1) in
+      let found : (p : Span) → lookup r s path ≡ is p → i < p .at = λ p e. omega (arith, to-found r s path p e) in (
+        g .0,
+        found,
+        by-reply (lookup r s path) (λ p e. rw (last-found r s path p e) (omega (arith, found p e)))
+            (λ k e. omega (arith, to-refused r s path k e)),
+      )
+
+  -- all that is left aside: what lies behind the part entered last, and the values passed over
+  pub behind-aside : (i : ℕ) → lastEntered r s path .at + lastEntered r s path .len ≤ i → i < length s
+      → coveredBy (aside r s path) i ≡ true
+  behind-aside i h g = covered-first (behind r s path) (passed r s path) i (omega arith) (omega arith)
+
+  pub passed-aside : (i : ℕ) → coveredBy (passed r s path) i ≡ true → coveredBy (aside r s path) i ≡ true
+  passed-aside i h = covered-later (behind r s path) (passed r s path) i h
+
+  -- a place that a lookup looks at is not left aside, and neither is a place of the value found
   seen-stays : (i : ℕ) → seen r s path i ≡ true → coveredBy (aside r s path) i ≡ false
   unfolding coveredBy
   seen-stays i h =
-      let g = second (coveredBy (passed r s path) i) _ h in
-      let ahead : i < past (lastEntered r s path) = by-reply (lookup r s path)
-      (λ p e. rw (last-found r s path p e) (omega (arith, ltb-true i (p .at) (rw e at (g .1)))))
-      (λ k e. ltb-true i (past (lastEntered r s path)) (rw e at (g .1))) in
-      rw (covers-ahead (behind r s path) i ahead) (g .0)
+      let g = seen-only i h in
+      rw (covers-ahead (behind r s path) i (omega arith)) (g .0)
 
   found-stays : (p : Span) → lookup r s path ≡ is p → (i : ℕ) → p .at ≤ i → i < past p → coveredBy (aside r s path) i ≡ false
   unfolding coveredBy
   found-stays p e i h g =
       rw (covers-ahead (behind r s path) i (rw (last-found r s path p e) g))
-      (within-none (passed r s path) i (every-weaken (λ q. covers q i ≡ false) (Before p) (passed r s path)
-      (λ q g. covers-behind q i (omega arith)) (found-outside r s path p e)))
+      (uncovered (passed r s path) i (every-weaken (λ q. covers q i ≡ false) (Before p) (passed r s path)
+      (λ q g. covers-behind q i (omega arith)) (lookup-outside r s path p e)))
+
+  -- a record of that length that has the same bytes wherever nothing is left aside has the same lookup, and shows the same value
+  module _ (s′ : List ℕ) (long : length s′ ≡ length s)
+      (same : (i : ℕ) → i < length s → coveredBy (aside r s path) i ≡ false → getD s′ i 0 ≡ getD s i 0) where
+    pub aside-unseen : lookup r s′ path ≡ lookup r s path
+    aside-unseen = unseen r s s′ path long (λ i h g. same i h (seen-stays i g))
+
+    pub aside-value : valueIn s′ (lookup r s′ path) ≡ valueIn s (lookup r s path)
+    aside-value =
+        rw aside-unseen (by-reply (lookup r s path) (λ p e.
+        let l = lookup-inside r s path p e in
+        rw e (take-same (p .len) (drop (p .at) s′) (drop (p .at) s) (simp (length-drop, long) (omega arith))
+        (simp length-drop (omega arith)) (λ i h.
+        getD-drop (p .at) s′ i 0 ∙ same (p .at + i) (omega arith) (found-stays p e (p .at + i) (omega arith) (omega arith))
+        ∙ sym (getD-drop (p .at) s i 0))))
+        (λ k e. rw e))
 
 module _ (f : ℕ → ℕ) (r : Reading) (s path : List ℕ) where
   -- the record keeps its length
@@ -363,27 +420,13 @@ module _ (f : ℕ → ℕ) (r : Reading) (s path : List ℕ) where
   pub refilled-byte : (i : ℕ) → i < length s → getD (refill f r s path) i 0 ≡ cond (coveredBy (aside r s path) i) (f i) (getD s i 0)
   refilled-byte i h = rw zero-add at (byte-fill f (aside r s path) 0 s i h)
 
+  refilled-same : (i : ℕ) → i < length s → coveredBy (aside r s path) i ≡ false → getD (refill f r s path) i 0 ≡ getD s i 0
+  refilled-same i h g = refilled-byte i h ∙ rw g
+
   -- whatever bytes stand in the values passed over and behind the part entered last, the lookup is the same
   pub refilled : lookup r (refill f r s path) path ≡ lookup r s path
-  refilled =
-      unseen r s (refill f r s path) path refilled-length (λ i h g. refilled-byte i h ∙ rw (seen-stays r s path i g))
+  refilled = aside-unseen r s path (refill f r s path) refilled-length refilled-same
 
   -- and shows the same value
   pub refilled-value : valueIn (refill f r s path) (lookup r (refill f r s path) path) ≡ valueIn s (lookup r s path)
-  refilled-value =
-      let s′ = refill f r s path in
-      rw refilled (by-reply (lookup r s path) (λ p e.
-      let l = all-is (Lies 0 (length s)) (lookup r s path) p (lookup-within r s path) e in
-      rw e (take-same (p .len) (drop (p .at) s′) (drop (p .at) s)
-      (simp (length-drop, refilled-length) (omega arith)) (simp length-drop (omega arith)) (λ i h.
-      getD-drop (p .at) s′ i 0 ∙ refilled-byte (p .at + i) (omega arith)
-      ∙ rw (found-stays r s path p e (p .at + i) (omega arith) (omega arith)) (sym (getD-drop (p .at) s i 0)))))
-      (λ k e. rw e))
-
-  -- and no bytes placed in a value passed over are found
-  pub none-placed : (p : Span) → lookup r (refill f r s path) path ≡ is p → Every (λ q. q .at + q .len ≤ p .at) (passed r s path)
-  none-placed p e = found-outside r s path p (sym refilled ∙ e)
-
-  -- nor any placed behind the part entered last
-  pub none-behind : (p : Span) → lookup r (refill f r s path) path ≡ is p → p .at + p .len ≤ behind r s path .at
-  none-behind p e = rw (last-found r s path p (sym refilled ∙ e)) (omega arith)
+  refilled-value = aside-value r s path (refill f r s path) refilled-length refilled-same

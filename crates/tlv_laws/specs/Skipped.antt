@@ -71,8 +71,10 @@ aside r s path = behind r s path ∷ passed r s path
 abbrev pub refill : (ℕ → ℕ) → Reading → List ℕ → List ℕ → List ℕ
 refill f r s path = fillIn f (aside r s path) 0 s
 
--- whether a lookup looks at a place: outside of the values passed over, and before the value found; where it is refused, before the
--- end of the part entered last
+-- the place up to which a lookup looks: where the value found begins; where it is refused, the end of the part entered last
+abbrev pub seenTo : Reading → List ℕ → List ℕ → ℕ
+seenTo r s path = ofValue (lookup r s path) (past (lastEntered r s path)) (λ p. p .at)
+
+-- whether a lookup looks at a place: outside of the values passed over, and before that place
 abbrev pub seen : Reading → List ℕ → List ℕ → ℕ → Bool
-seen r s path i =
-    cond (coveredBy (passed r s path) i) false (ltb i (ofValue (lookup r s path) (past (lastEntered r s path)) (λ p. p .at)))
+seen r s path i = cond (coveredBy (passed r s path) i) false (ltb i (seenTo r s path))
