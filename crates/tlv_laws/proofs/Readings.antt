@@ -1,13 +1,13 @@
 -- On exactly which tags the crate's and the standard reading part, and that nothing else does. Assumes nothing.
 use Prim.Native.Nat.{ℕ, zero, suc, _+_, _*_, _%_, _≤_, _<_}
-use mathlib.Core.Path.{_≡_, refl, sym, _∙_}
-use mathlib.Core.Bool.{Bool, true, false, cond, true≢false}
-use mathlib.Core.List.{List, [], _∷_}
+use mathlib.Core.Path.{_≡_, refl, sym, ap, _∙_}
+use mathlib.Core.Bool.{Bool, true, false, cond, true≢false, false≢true}
+use mathlib.Core.List.{List, [], _∷_, _++_, append-assoc}
 use native.Mathlib.Omega.{arith}
 use native.Mathlib.Decide.{decLt, decLe}
 use lib.Dec.{ltb, leb, eqb}
-use lib.ListN.{length, getD, drop}
-use borrow.Author.Tests.{ltb-false, leb-true, leb-false, eqb-true, eqb-false, le-ltb, le-leb, lt-leb, eq-eqb, ne-eqb}
+use lib.ListN.{length, getD, take, drop, take-append-drop}
+use borrow.Author.Tests.{ltb-false, leb-true, eqb-true, eqb-false, le-ltb, le-leb, lt-leb, eq-eqb, ne-eqb}
 use Rattle.basis.specs.Differ.{Differ}
 use Rattle.basis.specs.Reply.{is, no as refused}
 use Rattle.basis.proofs.Reply.{All, all-is, all-cond, no-is, then-same}
@@ -19,31 +19,71 @@ use Rattle.tlv.proofs.Among.{inside, below, above}
 use Rattle.tlv.specs.declared.Reading.the-variants.{Crate, Standard}
 use Rattle.tlv_laws.specs.Readings.{partsTwo, partsThree, tagParts, meetsIn, meetsAt, meetsFrom, meets}
 use Rattle.tlv_laws.specs.Value.{ofValue}
-use Rattle.tlv_laws.proofs.Choice.{by-test, same-cond, neither, second, not-true-false, all-self}
+use Rattle.tlv_laws.proofs.Choice.{by-test, by-reply, on-cond, same-cond, neither, not-true-false, all-self}
+use Rattle.tlv_laws.proofs.Boundary.{walked-none, walked-append, walked-next}
+
+-- the second bytes on which they part: 1E, and from FF on
+two-1e : partsTwo 0x1E ≡ true
+unfolding partsTwo
+two-1e = refl
+
+two-ff : (b : ℕ) → 0xFF ≤ b → partsTwo b ≡ true
+unfolding partsTwo
+two-ff b h = on-cond (λ x. x ≡ true) (eqb b _) _ _ (λ _. refl) (λ _. le-leb _ b (omega arith))
+
+two-other : (b : ℕ) → (b ≡ 0x1E → ⊥) → b < 0xFF → partsTwo b ≡ false
+unfolding partsTwo
+two-other b n h = rw (ne-eqb b 0x1E n) (lt-leb _ b (omega arith))
+
+-- the third bytes: 80, and from FF on
+three-80 : partsThree 0x80 ≡ true
+unfolding partsThree
+three-80 = refl
+
+three-ff : (b : ℕ) → 0xFF ≤ b → partsThree b ≡ true
+unfolding partsThree
+three-ff b h = on-cond (λ x. x ≡ true) (eqb b _) _ _ (λ _. refl) (λ _. le-leb _ b (omega arith))
+
+three-other : (b : ℕ) → (b ≡ 0x80 → ⊥) → b < 0xFF → partsThree b ≡ false
+unfolding partsThree
+three-other b n h = rw (ne-eqb b 0x80 n) (lt-leb _ b (omega arith))
+
+-- a byte that is k or from FF on, told by a truth value
+module _ (parts : ℕ → Bool) (k : ℕ) (here : parts k ≡ true) (from : (b : ℕ) → 0xFF ≤ b → parts b ≡ true)
+    (other : (b : ℕ) → (b ≡ k → ⊥) → b < 0xFF → parts b ≡ false) (b : ℕ) where
+  not-parted : parts b ≡ false → (b ≡ k → ⊥) × (b < 0xFF)
+  not-parted e = (
+    λ z. true≢false (sym here ∙ rw z at e),
+    elim (decLt b 0xFF) [ yes h ↦ h | no h ↦ absurd (true≢false (sym (from b (omega arith)) ∙ e)) ],
+  )
+
+  parted : parts b ≡ true → (b ≡ k → ⊥) → 0xFF ≤ b
+  parted e n = elim (decLt b 0xFF) [ yes h ↦ absurd (true≢false (sym e ∙ other b n h)) | no h ↦ omega arith ]
 
 -- a second byte on which they part: the crate's tag ends there, the standard's does not
 module _ (b : ℕ) (e : partsTwo b ≡ true) where
+  two-from : eqb b 0x1E ≡ false → 0xFF ≤ b
+  two-from h = parted partsTwo 0x1E two-1e two-ff two-other b e (eqb-false b 0x1E h)
+
   two-crate : sizeByCrate b ≡ 2
-  unfolding partsTwo sizeByCrate among
+  unfolding sizeByCrate among
   two-crate =
       by-test (eqb b 0x1E) (λ h. rw (eqb-true b 0x1E h)) (λ h.
-      let g : 0xFF ≤ b = leb-true 0xFF b (rw h at e) in
+      let g = two-from h in
       rw (above 0 0x1D b (omega arith) (omega arith), ne-eqb b 0x80 (omega arith), above 0x81 0xFE b (omega arith) g))
 
   two-standard : eqb (sizeByStandard b) 2 ≡ false
-  unfolding partsTwo sizeByStandard among
+  unfolding sizeByStandard among
   two-standard =
       by-test (eqb b 0x1E) (λ h. rw (eqb-true b 0x1E h)) (λ h.
-      let g : 0xFF ≤ b = leb-true 0xFF b (rw h at e) in
+      let g = two-from h in
       rw (above 0x1F 0x7F b (omega arith) (omega arith)) (by-test (among 0x81 0xFF b) (λ k. rw k) (λ k. rw k)))
 
 -- on any other they agree
 two-alike : (b : ℕ) → partsTwo b ≡ false → sizeByCrate b ≡ sizeByStandard b
-unfolding partsTwo sizeByCrate sizeByStandard
+unfolding sizeByCrate sizeByStandard
 two-alike b e =
-    let n = neither (eqb b 0x1E) (leb 0xFF b) e in
-    let g : b < 0xFF = leb-false 0xFF b (n .1) in
-    let f : b ≡ 0x1E → ⊥ = eqb-false b 0x1E (n .0) in
+    let n = not-parted partsTwo 0x1E two-1e two-ff two-other b e in
     elim (decLt b 0x1F) [
       | yes p ↦ rw (inside 0 0x1D b (omega arith) (omega arith), below 0x1F 0x7F b p, below 0x81 0xFF b (omega arith))
       | no p ↦
@@ -77,21 +117,19 @@ two-alike b e =
     ]
 
 three-alike : (b : ℕ) → partsThree b ≡ false → thirdByCrate b ≡ leb b 0x7F
-unfolding partsThree thirdByCrate
+unfolding thirdByCrate
 three-alike b e =
-    let n = neither (eqb b 0x80) (leb 0xFF b) e in
-    let g : b < 0xFF = leb-false 0xFF b (n .1) in
-    let f : b ≡ 0x80 → ⊥ = eqb-false b 0x80 (n .0) in
+    let n = not-parted partsThree 0x80 three-80 three-ff three-other b e in
     elim (decLe b 0x7F) [
       | yes p ↦ rw (below 0x81 0xFE b (omega arith), le-leb b 0x7F p)
       | no p ↦ rw (inside 0x81 0xFE b (omega arith) (omega arith), lt-leb b 0x7F (omega arith))
     ]
 
 three-differ : (b : ℕ) → partsThree b ≡ true → (thirdByCrate b ≡ true) × (leb b 0x7F ≡ false)
-unfolding partsThree thirdByCrate among
+unfolding thirdByCrate among
 three-differ b e =
     by-test (eqb b 0x80) (λ h. let g : b ≡ 0x80 = eqb-true b 0x80 h in (rw g, rw g)) (λ h.
-    let g : 0xFF ≤ b = leb-true 0xFF b (rw h at e) in
+    let g = parted partsThree 0x80 three-80 three-ff three-other b e (eqb-false b 0x80 h) in
     (rw (above 0x81 0xFE b (omega arith) g), lt-leb b 0x7F (omega arith)))
 
 -- a tag that the crate takes for three bytes long
@@ -159,15 +197,18 @@ module _ (s : List ℕ) where
         rw (some, f, h, sym (two-alike (getD s 1 0) e) ∙ three, g, d .1) in
         no-is 12 _ (sym left ∙ sym q ∙ taken)
 
-  tags-part : tagParts s ≡ true → tagOf Crate s ≡ tagOf Standard s → ⊥
+  pub tags-part : tagParts s ≡ true → tagOf Crate s ≡ tagOf Standard s → ⊥
   unfolding tagParts
   tags-part e q =
-      let n = second (ltb (length s) 2) _ e in
-      let m = both (eqb (getD s 0 0 % 32) 31) _ (n .1) in
-      by-test (partsTwo (getD s 1 0)) (part-two (n .0) (m .0) q) (λ h.
-      let a = both (among 0x81 0xFE (getD s 1 0)) _ (rw h at (m .1)) in
-      let g = second (ltb (length s) 3) (partsThree (getD s 2 0)) (a .1) in
-      part-three (n .0) (m .0) q h (a .0) (g .0) (g .1))
+      let b2 = getD s 1 0 in
+      by-test (ltb (length s) 2) (λ h. false≢true (rw h at e)) (λ h.
+      by-test (eqb (getD s 0 0 % 32) 31)
+      (λ f. by-test (partsTwo b2) (part-two h f q) (λ p.
+      by-test (among 0x81 0xFE b2)
+      (λ a. by-test (ltb (length s) 3) (λ g. false≢true (rw (h, f, p, a, g) at e)) (λ g.
+      part-three h f q p a g (rw (h, f, p, a, g) at e)))
+      (λ a. false≢true (rw (h, f, p, a) at e))))
+      (λ f. false≢true (rw (h, f) at e)))
 
   pub tags-differ : Differ (tagParts s ≡ true) (tagOf Crate s) (tagOf Standard s)
   tags-differ = record { differ = tags-part; equal = λ h. tags-alike (not-true-false (tagParts s) h) }
@@ -203,3 +244,38 @@ follow-alike s p (t ∷ path) e =
 
 pub lookups-alike : (s path : List ℕ) → meets s path ≡ false → lookup Crate s path ≡ lookup Standard s path
 lookups-alike s path = follow-alike s (whole s) path
+
+-- none is met at a level where none stands behind whole objects without the tag (in which the tag is refused with 11)
+level-none : (t n : ℕ) (s : List ℕ)
+    → ((x y : List ℕ) → s ≡ x ++ y → lookup Crate x (t ∷ []) ≡ refused 11 → tagParts y ≡ false) → meetsIn n t s ≡ false
+unfolding meetsIn
+level-none t zero s h = refl
+level-none t (suc n) s h =
+    rw (h [] s refl (walked-none Crate t))
+    (by-reply (objectOf Crate s) (λ o e.
+    let k = sizeOf o in
+    rw e (by-test (eqb (o .tag) t) (λ g. rw g) (λ g.
+    rw g (level-none t n (drop k s) (λ x y q w.
+    h (take k s ++ x) y (sym (take-append-drop k s) ∙ rw (q, append-assoc))
+    (walked-append Crate t (take k s) x (walked-next Crate t [] s o (walked-none Crate t) e (eqb-false (o .tag) t g)) w))))))
+    (λ k e. rw e))
+
+path-none : (s : List ℕ) (p : Span) (path : List ℕ)
+    → ((front rest : List ℕ) (t : ℕ) (q : Span) (x y : List ℕ) → path ≡ front ++ (t ∷ rest) → follow Crate s p front ≡ is q
+    → part s q ≡ x ++ y → lookup Crate x (t ∷ []) ≡ refused 11 → tagParts y ≡ false)
+    → meetsFrom s p path ≡ false
+unfolding meetsFrom meetsAt follow
+path-none s p [] h = refl
+path-none s p (t ∷ path) h =
+    rw (level-none t (length (part s p)) (part s p) (λ x y. h [] path t p x y refl refl))
+    (by-reply (seek Crate t (p .at) (part s p)) (λ q e.
+    rw e (path-none s q path (λ front rest u m x y parts entered.
+    h (t ∷ front) rest u m x y (ap (λ (l : List ℕ). t ∷ l) parts) (rw e entered))))
+    (λ k e. rw e))
+
+-- so none is met where none stands at a place to which the lookup comes, at any level of the path
+pub meets-none : (s path : List ℕ)
+    → ((front rest : List ℕ) (t : ℕ) (p : Span) (x y : List ℕ) → path ≡ front ++ (t ∷ rest) → lookup Crate s front ≡ is p
+    → part s p ≡ x ++ y → lookup Crate x (t ∷ []) ≡ refused 11 → tagParts y ≡ false)
+    → meets s path ≡ false
+meets-none s path = path-none s (whole s) path
