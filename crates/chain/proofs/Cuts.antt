@@ -1,17 +1,20 @@
 -- The pieces of one command, in every mode, sent through a reassembler that is closed or holds earlier pieces of it: every reply but
 -- the last is "more", and the last one is the command. Assumes nothing.
-use Prim.Native.Nat.{ℕ, zero, suc, _+_, _-_, _≤_, _<_}
-use mathlib.Core.Path.{_≡_, refl, sym, ap, _∙_}
-use mathlib.Core.Bool.{Bool, true}
+use Prim.Native.Nat.{ℕ, zero, suc, _+_, _-_, _/_, _%_, _≤_, _<_}
+use mathlib.Core.Path.{_≡_, refl, sym, ap, _∙_, subst}
+use mathlib.Core.Bool.{Bool, true, false, cond}
 use mathlib.Core.List.{List, [], _∷_, _++_, map}
+use mathlib.Core.Logic.{_≢_}
 use mathlib.Core.Option.{Option, none, some}
 use native.Mathlib.Omega.{arith}
-use native.Mathlib.Decide.{decLe}
-use borrow.Author.Tests.{le-leb, lt-leb}
-use lib.ListN.{length, take, drop, replicate, take-append-drop, length-take, length-drop}
+use native.Mathlib.Nat.{zero-add}
+use borrow.Author.Tests.{lt-ltb}
+use lib.Dec.{ltb}
+use lib.ListN.{length, take, drop, replicate, take-append-drop, length-take, length-drop, length-map}
+use lib.Seq.{take-append-seam}
 use Rattle.basis.specs.Reply.{Reply, is}
-use Rattle.basis.specs.Part.{put}
-use Rattle.basis.proofs.Part.{length-put, put-put}
+use Rattle.basis.specs.Part.{over, put}
+use Rattle.basis.proofs.Part.{length-put, put-put, put-zero}
 use Rattle.class.specs.Chain.{bit, chained}
 use Rattle.class.specs.declared.Reading.the-variants.{Crate}
 use Rattle.command.specs.declared.CommandView.{CommandView}
@@ -22,12 +25,13 @@ use Rattle.builder.specs.declared.ExpectedLen.{ExpectedLen}
 use Rattle.builder.specs.declared.ExpectedLen.the-variants.{Ne, Max}
 use Rattle.builder.specs.declared.ExtendedLen.{ExtendedLen}
 use Rattle.builder.specs.declared.ExtendedLen.the-variants.{Unsupported, Supported, Forced}
-use Rattle.builder_laws.specs.Read.{Expected, viewFor}
+use Rattle.builder_laws.specs.Read.{Expected, extendedFor, viewFor}
 use Rattle.builder_laws.proofs.Read.{built-read}
-use Rattle.splitter.specs.Step.{loweredLen, most, firstOf, laterOf}
-use Rattle.splitter.specs.Pieces.{Part, parts, pieceOf}
+use Rattle.builder_laws.proofs.Shown.{shown-short}
+use Rattle.splitter.specs.Step.{most, firstOf, laterOf}
+use Rattle.splitter.specs.Pieces.{Part, parts, pieceOf, piecesOf}
 use Rattle.splitter_laws.proofs.Cut.{room-is, cut}
-use Rattle.splitter_laws.proofs.Parts.{later-shown}
+use Rattle.splitter_laws.proofs.Parts.{later-le, later-shown}
 use Rattle.reassembler.specs.Join.{continues, heldBy, endingOf, commandIn, heldOf, joinOf}
 use Rattle.reassembler.specs.declared.Reassembler.{Reassembler}
 use Rattle.reassembler.specs.declared.Reassembler.the-variants.{Closed, Open}
@@ -48,11 +52,9 @@ Ready r b =
     (v : CommandView) → chained (v .class .cla) ≡ chained (b .class .cla) → v .instruction ≡ b .instruction → v .p1 ≡ b .p1 → v .p2 ≡ b .p2
     → continues r v ≡ true
 
--- the flag of the command given back: its own for a single part, true for several
-abbrev pub flag : Reassembler → CommandBuilder → ℕ → List Part → Bool
-flag r b n [] = true
-flag r b n (p ∷ []) = endingOf r (viewFor b n) .extended
-flag r b n (p ∷ q ∷ ps) = true
+-- the flag of the command given back from k parts: true for several, its own for a single one
+abbrev flag : Reassembler → CommandBuilder → ℕ → ℕ → Bool
+flag r b n k = cond (ltb 1 k) true (endingOf r (viewFor b n) .extended)
 
 -- the run: more to k pieces, then the command
 abbrev pub givenBy : Reassembler → CommandBuilder → List ℕ → List ℕ → Bool → Given
@@ -79,7 +81,7 @@ pub record Sends (b : CommandBuilder) (d : List ℕ) (ps : List Part) : Type 0 w
   pub some-part : 1 ≤ length ps
   pub single : length ps ≡ 1 → length d ≤ most (b .mode)
   pub sent : Sendable b → (r : Reassembler) (room : List ℕ) → Ready r b → heldBy r + length d ≤ length room
-      → run r room (map pieceOf ps) ≡ ran (length ps - 1) (givenBy r b d room (flag r b (length d) ps)) (put (heldBy r) d room)
+      → run r room (map pieceOf ps) ≡ ran (length ps - 1) (givenBy r b d room (flag r b (length d) (length ps))) (put (heldBy r) d room)
 
 -- the last piece's expected length is its own
 ending-le : (r : Reassembler) (v : CommandView) → endingOf r v .le ≡ v .le
@@ -107,25 +109,18 @@ module _ (b : CommandBuilder) (d : List ℕ) (few : length d ≤ 65535) (s : Sen
   whole-sent = run-first r room (commandOf b d) [] _ whole-joined ∙ rw (run-none, ending-le r (viewFor b (length d)))
 
 -- what is lowered is still an expected length
-lowered-expected : (m : ExtendedLen) (e : ExpectedLen) → Expected e → Expected (loweredLen m e)
-lowered-expected Unsupported (Ne n) h =
-    elim (decLe n 256) [ yes g ↦ rw (le-leb n 256 g) h | no g ↦ rw (lt-leb n 256 (omega arith)) (omega arith) ]
-lowered-expected Unsupported Max h = omega arith
-lowered-expected Supported e h = h
-lowered-expected Forced e h = h
+later-expected : (b : CommandBuilder) (m : ExtendedLen) → b .mode ≡ m → Expected (b .le) → Expected (laterOf b .le)
+later-expected b Unsupported q h = subst (λ (e : ExpectedLen). Expected e) (sym (later-le b q)) (omega (arith, shown-short b q))
+later-expected b Supported q h = rw q h
+later-expected b Forced q h = rw q h
 
 later-sendable : (b : CommandBuilder) → Sendable b → Sendable (laterOf b)
-later-sendable b s = record { clear = s .clear; class = s .class; le = lowered-expected (b .mode) (b .le) (s .le) }
+later-sendable b s = record { clear = s .clear; class = s .class; le = later-expected b (b .mode) refl (s .le) }
 
--- behind several parts the flag is true, and so it is where a chain is open
-flag-several : (r : Reassembler) (b : CommandBuilder) (n : ℕ) (p : Part) (ps : List Part) → 1 ≤ length ps → flag r b n (p ∷ ps) ≡ true
-flag-several r b n p [] h = absurd (omega arith)
-flag-several r b n p (q ∷ ps) h = refl
-
-flag-open : (b : CommandBuilder) (n : ℕ) (ps : List Part) (v : CommandView) (k : ℕ) → flag (Open (heldOf v k)) b n ps ≡ true
-flag-open b n [] v k = refl
-flag-open b n (p ∷ []) v k = refl
-flag-open b n (p ∷ q ∷ ps) v k = refl
+-- true where a chain is open
+both-true : (x : Bool) → cond x true true ≡ true
+both-true true = refl
+both-true false = refl
 
 one-more : {A : Type 0} (k : ℕ) (a : A) → 1 ≤ k → a ∷ replicate (k - 1) a ≡ replicate k a
 one-more zero a h = absurd (omega arith)
@@ -177,7 +172,7 @@ module _ (b : CommandBuilder) (d : List ℕ) (few : length d ≤ 65535) (k : ℕ
       let long = length-put (heldBy r) now room (omega (arith, sizes)) in
       let size : heldBy r + length now + length rest ≡ heldBy r + length d = omega (arith, sizes) in
       later .sent (later-sendable b s) held (put (heldBy r) now room) rest-ready (omega (arith, long, sizes))
-      ∙ rw (flag-open (laterOf b) (length rest) ps view (heldBy r + length now), both, size, later-shown b)
+      ∙ rw (both-true (ltb 1 (length ps)), both, size, later-shown b)
 
   split-sent : run r room (commandOf (firstOf b) now ∷ map pieceOf ps)
       ≡ ran (length ps) (givenBy r b d room true) (put (heldBy r) d room)
@@ -202,5 +197,48 @@ cut-sends b d m ten few =
       single = λ one. absurd (omega (arith, later .some-part, one));
       sent = λ s r room ready left.
           split-sent b d few k h ps later s r room ready left
-          ∙ rw (flag-several r b (length d) (record { builder = firstOf b; «data» = take k d }) ps (later .some-part), size);
+          ∙ rw (lt-ltb 1 (suc (length ps)) (omega (arith, later .some-part)), size);
     }) b d few few
+
+-- the front of a room that was written over is what was written
+pub front : (d room : List ℕ) → take (length d) (over d room) ≡ d
+unfolding over
+front d room = take-append-seam d _
+
+-- an expected length is one that, where it is a number, is at most 65,535
+expected : (e : ExpectedLen) → ((n : ℕ) → e ≡ Ne n → n ≤ 65535) → Expected e
+expected (Ne n) h = omega (arith, h n refl)
+expected Max h = tt
+
+-- A command in any mode, whose class has bit 0x10 clear and is not 0xEF, cut for a buffer of 10 bytes or more and sent through a closed
+-- reassembler with room for its data: "more" to every piece but the last, and to the last the command.
+pub command-back : (b : CommandBuilder) (d : List ℕ) (m : ℕ) (room : List ℕ) → b .class .cla / 16 % 2 ≡ 0 → b .class .cla ≢ 0xEF
+    → ((n : ℕ) → b .le ≡ Ne n → n ≤ 65535) → length d ≤ 65535 → 10 ≤ m → length d ≤ length room
+    → let ps = piecesOf b d m in
+    run Closed room ps
+    ≡ record {
+      replies =
+          replicate (length ps - 1) (is none)
+          ++ (is
+          (some
+          (record {
+            command =
+                record {
+                  class = b .class;
+                  instruction = b .instruction;
+                  p1 = b .p1;
+                  p2 = b .p2;
+                  len = length d;
+                  le = leShown b;
+                  extended = cond (ltb 1 (length ps)) true (extendedFor b (length d));
+                };
+            «data» = d;
+          }))
+          ∷ []);
+      state = Closed;
+      room = over d room;
+    }
+command-back b d m room clear class le few ten left =
+    let s : Sendable b = record { clear = omega arith; class = omega arith; le = expected (b .le) le } in
+    cut-sends b d m ten few .sent s Closed room (λ v _ _ _ _. refl) (omega arith)
+    ∙ rw (zero-add, put-zero, front, length-map)

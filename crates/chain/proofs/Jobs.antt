@@ -1,16 +1,17 @@
 -- One command in short form, sent through a closed reassembler. Assumes nothing.
-use Prim.Native.Nat.{ℕ, _-_, _≤_}
+use Prim.Native.Nat.{ℕ, _-_, _/_, _%_, _≤_}
 use mathlib.Core.Path.{_≡_, refl, _∙_}
-use mathlib.Core.Bool.{false}
-use mathlib.Core.List.{List, [], _∷_, map}
+use mathlib.Core.Logic.{_≢_}
+use mathlib.Core.Bool.{Bool, true, false, cond}
+use mathlib.Core.List.{List}
 use mathlib.Core.Option.{Option, none, some}
-use native.Mathlib.Nat.{zero-add}
 use native.Mathlib.Omega.{arith}
-use lib.ListN.{length, take, replicate, length-map, length-append, length-replicate}
-use lib.Seq.{take-append-seam}
+use native.Mathlib.Decide.{decLe}
+use borrow.Author.Tests.{lt-ltb, le-ltb}
+use lib.Dec.{ltb}
+use lib.ListN.{length, length-map, length-append, length-replicate}
 use Rattle.basis.specs.Reply.{Reply, is}
 use Rattle.basis.specs.Part.{over}
-use Rattle.basis.proofs.Part.{put-zero}
 use Rattle.builder.specs.Bytes.{leShown}
 use Rattle.builder.specs.declared.CommandBuilder.{CommandBuilder}
 use Rattle.builder_laws.specs.Read.{extendedFor}
@@ -19,20 +20,21 @@ use Rattle.splitter.specs.Pieces.{Part, parts, pieceOf}
 use Rattle.splitter_laws.specs.Chain.{shortOf}
 use Rattle.reassembler.specs.declared.Reassembler.the-variants.{Closed}
 use Rattle.chain.specs.Run.{Given, run}
-use Rattle.chain.specs.Jobs.{Job, Fair, pieces, several, given, repliesTo}
-use Rattle.chain.proofs.Cuts.{Sendable, flag, cut-sends}
+use Rattle.chain.specs.Jobs.{Job, Fair, HasRoom, pieces, givenTo, repliesTo}
+use Rattle.chain.proofs.Cuts.{cut-sends, command-back}
 
--- the front of a room that was written over is what was written
-pub front : (d room : List ℕ) → take (length d) (over d room) ≡ d
-unfolding over
-front d room = take-append-seam d _
+-- what is asked of a job, and of a room: the words of demand 3, in numbers
+pub fair : (j : Job) → j .wanted .class / 16 % 2 ≡ 0 → j .wanted .class ≢ 0xEF → length (j .wanted .«data») ≤ 65535 → j .wanted .le ≤ 256
+    → 10 ≤ j .buffer → Fair j
+fair j clear class few le ten = omega arith
 
--- the flag in short mode: a single part has short lengths
-flag-is : (b : CommandBuilder) (n : ℕ) (ps : List Part) → (length ps ≡ 1 → extendedFor b n ≡ false) → 1 ≤ length ps
-    → flag Closed b n ps ≡ several (map pieceOf ps)
-flag-is b n [] h g = absurd (omega arith)
-flag-is b n (p ∷ []) h g = h refl
-flag-is b n (p ∷ q ∷ ps) h g = refl
+pub has-room : (room : List ℕ) (j : Job) → length (j .wanted .«data») ≤ length room → HasRoom room j
+has-room room j h = omega arith
+
+-- true for several; a single one's own is false
+flag-is : (k : ℕ) (x : Bool) → 1 ≤ k → (k ≡ 1 → x ≡ false) → cond (ltb 1 k) true x ≡ ltb 1 k
+flag-is k x h g =
+    elim (decLe k 1) [ yes e ↦ rw (le-ltb 1 k e) (g (omega arith)) | no e ↦ rw (lt-ltb 1 k (omega arith)) ]
 
 module _ (j : Job) (f : Fair j) where
   abbrev builder : CommandBuilder
@@ -43,38 +45,40 @@ module _ (j : Job) (f : Fair j) where
   abbrev d : List ℕ
   d = j .wanted .«data»
 
-  abbrev ps : List Part
-  ps = parts builder d (j .buffer)
+  ten : 10 ≤ j .buffer
+  ten = omega (arith, f .ten)
+
+  few : length d ≤ 65535
+  few = omega (arith, f .few)
+
+  le : j .wanted .le ≤ 256
+  le = omega (arith, f .le)
 
   shows : leShown builder ≡ j .wanted .le
-  shows = le-read builder .number (j .wanted .le) refl (λ _. f .le)
+  shows = le-read builder .number (j .wanted .le) refl (λ _. le)
 
-  sendable : Sendable builder
-  sendable = record { clear = f .clear; class = f .class; le = omega (arith, f .le) }
+  -- there is a piece
+  pub some-piece : 1 ≤ length (pieces j)
+  some-piece = omega (arith, length-map (parts builder d (j .buffer)) pieceOf, cut-sends builder d (j .buffer) ten few .some-part)
 
-  extended : flag Closed builder (length d) ps ≡ several (pieces j)
+  extended : cond (ltb 1 (length (pieces j))) true (extendedFor builder (length d)) ≡ ltb 1 (length (pieces j))
   extended =
-      let cuts = cut-sends builder d (j .buffer) (f .ten) (f .few) in
-      flag-is builder (length d) ps
-      (λ one. extended-read builder (length d) .short (cuts .single one) (shown-short builder refl) (λ e. cc))
-      (cuts .some-part)
+      let size = length-map (parts builder d (j .buffer)) pieceOf in
+      flag-is (length (pieces j)) (extendedFor builder (length d)) some-piece
+      (λ one.
+      let short = cut-sends builder d (j .buffer) ten few .single (omega (arith, size)) in
+      extended-read builder (length d) .short short (shown-short builder refl) (λ e. cc))
 
   -- one reply for each piece
   pub one-each : length (repliesTo j) ≡ length (pieces j)
   unfolding repliesTo
   one-each =
-      let k = length (pieces j) - 1 in
-      let more : List (Reply (Option Given)) = replicate k (is none) in
-      let last : List (Reply (Option Given)) = is (some (given (j .wanted) (several (pieces j)))) ∷ [] in
-      let size : length (pieces j) ≡ length ps = length-map ps pieceOf in
-      let cuts = cut-sends builder d (j .buffer) (f .ten) (f .few) in
-      length-append more last ∙ omega (arith, size, cuts .some-part, length-replicate {A = Reply (Option Given)} k (is none))
+      simp (length-append, length-replicate) (omega (arith, some-piece))
 
   -- sent through a closed reassembler
-  module _ (room : List ℕ) (room-left : length d ≤ length room) where
-    pub job-sent : run Closed room (pieces j) ≡ record { replies = repliesTo j; state = Closed; room = over d room }
-    unfolding repliesTo
-    job-sent =
-        let cuts = cut-sends builder d (j .buffer) (f .ten) (f .few) in
-        cuts .sent sendable Closed room (λ v _ _ _ _. refl) (omega (arith, room-left))
-        ∙ rw (extended, shows, zero-add, put-zero, front, length-map)
+  pub job-sent : (room : List ℕ) → HasRoom room j → run Closed room (pieces j) ≡ record { replies = repliesTo j; state = Closed; room = over d room }
+  unfolding repliesTo
+  job-sent room h =
+      command-back builder d (j .buffer) room (omega (arith, f .clear)) (omega (arith, f .class))
+      (λ n e. let q : j .wanted .le ≡ n = cc in omega (arith, le)) few ten (omega (arith, h))
+      ∙ rw (extended, shows)

@@ -1,7 +1,8 @@
 -- Laws of runs: a piece, and lists of pieces one behind the other. Assumes nothing.
-use Prim.Native.Nat.{ℕ}
+use Prim.Native.Nat.{ℕ, suc}
 use mathlib.Core.Path.{_≡_, refl, ap, _∙_}
 use mathlib.Core.List.{List, [], _∷_, _++_}
+use lib.ListN.{length}
 use Rattle.reassembler.specs.Join.{Outcome, joinOf}
 use Rattle.reassembler.specs.declared.Reassembler.{Reassembler}
 use Rattle.chain.specs.Run.{heard, Run, behind, run}
@@ -31,3 +32,9 @@ run-append r room (p ∷ ps) qs =
 pub run-after : (r : Reassembler) (room : List ℕ) (ps qs : List (List ℕ)) (x : Run) → run r room ps ≡ x
     → run r room (ps ++ qs) ≡ then x (run (x .state) (x .room) qs)
 run-after r room ps qs x e = run-append r room ps qs ∙ ap (λ (x : Run). then x (run (x .state) (x .room) qs)) e
+
+-- one reply for each piece
+pub run-replies : (r : Reassembler) (room : List ℕ) (ps : List (List ℕ)) → length (run r room ps .replies) ≡ length ps
+unfolding run
+run-replies r room [] = refl
+run-replies r room (p ∷ ps) = let o = joinOf r room p in ap suc (run-replies (o .state) (o .room) ps)

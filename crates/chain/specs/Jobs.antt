@@ -1,9 +1,10 @@
 -- Lists of commands, each cut in short form for a buffer of its own: demand 3 (docs/PROMISES.md).
 use Prim.Native.Nat.{ℕ, _-_, _≤_}
 use mathlib.Core.Path.{_≡_}
-use mathlib.Core.Bool.{Bool, true, false}
-use mathlib.Core.List.{List, [], _∷_, _++_}
+use mathlib.Core.Bool.{Bool}
+use mathlib.Core.List.{List, [], _∷_, _++_, flatMap}
 use mathlib.Core.Option.{Option, none, some}
+use lib.Dec.{ltb}
 use lib.ListN.{length, replicate}
 use Rattle.basis.specs.Reply.{Reply, is}
 use Rattle.basis.specs.Part.{over}
@@ -46,16 +47,10 @@ abbrev pub pieces : Job → List (List ℕ)
 pieces j = piecesFor (j .wanted) (j .buffer)
 
 -- all pieces, in order
-unfoldable pub stream : List Job → List (List ℕ)
-stream [] = []
-stream (j ∷ js) = pieces j ++ stream js
+abbrev pub stream : List Job → List (List ℕ)
+stream js = flatMap pieces js
 
--- the command given back: header, data and Le are those wanted; extended where there were several pieces
-abbrev pub several : List (List ℕ) → Bool
-several [] = false
-several (p ∷ []) = false
-several (p ∷ q ∷ ps) = true
-
+-- the command given back: header, data and Le are those wanted, with this flag
 abbrev pub given : Wanted → Bool → Given
 given w x =
     record {
@@ -72,13 +67,16 @@ given w x =
       «data» = w .«data»;
     }
 
+-- the command that a job gives back: extended where there were several pieces
+abbrev pub givenTo : Job → Given
+givenTo j = given (j .wanted) (ltb 1 (length (pieces j)))
+
 -- the replies to its pieces: more to all but the last, the command to the last
 unfoldable pub repliesTo : Job → List (Reply (Option Given))
-repliesTo j = replicate (length (pieces j) - 1) (is none) ++ (is (some (given (j .wanted) (several (pieces j)))) ∷ [])
+repliesTo j = replicate (length (pieces j) - 1) (is none) ++ (is (some (givenTo j)) ∷ [])
 
-unfoldable pub allReplies : List Job → List (Reply (Option Given))
-allReplies [] = []
-allReplies (j ∷ js) = repliesTo j ++ allReplies js
+abbrev pub allReplies : List Job → List (Reply (Option Given))
+allReplies js = flatMap repliesTo js
 
 -- the room after them: each command's data from its beginning, one over the other
 unfoldable pub roomAfter : List Job → List ℕ → List ℕ

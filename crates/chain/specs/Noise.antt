@@ -3,10 +3,10 @@ use Prim.Native.Nat.{ℕ}
 use mathlib.Core.Path.{_≡_}
 use mathlib.Core.List.{List, [], _∷_}
 use mathlib.Core.Option.{Option}
-use Rattle.basis.specs.Reply.{Reply, is, no}
+use Rattle.basis.specs.Reply.{Reply, no}
 use Rattle.reassembler.specs.Join.{joinOf}
 use Rattle.reassembler.specs.declared.Reassembler.{Reassembler}
-use Rattle.chain.specs.Run.{Given, run}
+use Rattle.chain.specs.Run.{Given}
 
 -- what is sent: a piece, or one that was put in
 pub data Sent : Type 0 where
@@ -31,19 +31,9 @@ toOthers (s ∷ ss) [] = []
 toOthers (piece p ∷ ss) (r ∷ rs) = r ∷ toOthers ss rs
 toOthers (noise p ∷ ss) (r ∷ rs) = toOthers ss rs
 
-abbrev pub IsRefused : {A : Type 0} → Reply A → Type 0
-IsRefused (is a) = ⊥
-IsRefused (no k) = Unit {0}
-
--- whatever was put in is refused where it stands
+-- whatever was put in is refused where it stands, by whatever number
 unfoldable pub RefusedThere : Reassembler → List ℕ → List Sent → Type 0
 RefusedThere r room [] = Unit {0}
 RefusedThere r room (piece p ∷ ss) = RefusedThere (joinOf r room p .state) (joinOf r room p .room) ss
 RefusedThere r room (noise p ∷ ss) =
-    IsRefused (joinOf r room p .reply) × RefusedThere (joinOf r room p .state) (joinOf r room p .room) ss
-
--- it changes nothing: the replies to the others, record and room are those without it
-pub record Same (r : Reassembler) (before : List ℕ) (ss : List Sent) : Type 0 where
-  pub replies : toOthers ss (run r before (all ss) .replies) ≡ run r before (others ss) .replies
-  pub state : run r before (all ss) .state ≡ run r before (others ss) .state
-  pub room : run r before (all ss) .room ≡ run r before (others ss) .room
+    ((k : ℕ) × (joinOf r room p .reply ≡ no k)) × RefusedThere (joinOf r room p .state) (joinOf r room p .room) ss

@@ -5,7 +5,7 @@ use mathlib.Core.List.{List, [], _∷_}
 use mathlib.Core.Option.{Option, none, some}
 use native.Mathlib.Omega.{arith}
 use borrow.Author.Tests.{le-ltb}
-use lib.ListN.{length, drop, replicate, length-map, length-append, length-replicate}
+use lib.ListN.{length, drop, length-map}
 use Rattle.basis.specs.Part.{over}
 use Rattle.basis.specs.Reply.{Reply, is, no}
 use Rattle.basis.proofs.Every.{every-weaken}
@@ -16,14 +16,13 @@ use Rattle.splitter.specs.Pieces.{Part, partsBy, partsIn, parts, pieceOf, piece
 use Rattle.splitter.specs.declared.step.Split.{Split}
 use Rattle.splitter_laws.specs.Chain.{shortOf, answers}
 use Rattle.splitter_laws.specs.Chain as chain-laws
-use Rattle.chain.specs.Run.{Given}
-use Rattle.chain.specs.Jobs.{Job, Fair, HasRoom, pieces, several, given, repliesTo}
-use Rattle.chain.proofs.Jobs.{one-each, job-sent}
+use Rattle.chain.specs.Jobs.{Job, Fair, HasRoom, pieces, givenTo, repliesTo}
+use Rattle.chain.proofs.Jobs.{some-piece, job-sent}
 use Rattle.chain.proofs.Demand.{pieces-given, every-piece-fits}
 use Rattle.exports_owned.specs.Copies.{commandNumbers}
-use Rattle.exports_relay.specs.Relay.{runFrom, runIn, stateNumbers, Ended, Tells}
+use Rattle.exports_relay.specs.Relay.{runFrom, runIn, stateNumbers, Ended, Tells, cut-and-join-is}
 use Rattle.exports_relay.specs.declared.State.{State}
-use Rattle.relay_laws.specs.Relay.{RelayedFor, numbersFor, ComesBack}
+use Rattle.relay_laws.specs.Relay.{numbersFor, ComesBack}
 use Rattle.relay_laws.proofs.Runs.{Comes, comes}
 
 -- not more parts than steps
@@ -49,17 +48,6 @@ module _ (j : Job) (f : Fair j) where
   abbrev d : List ℕ
   d = j .wanted .«data»
 
-  abbrev back : Given
-  back = given (j .wanted) (several (pieces j))
-
-  -- there is a piece
-  some-piece : suc (length (pieces j) - 1) ≡ length (pieces j)
-  unfolding repliesTo
-  some-piece =
-      let k = length (pieces j) - 1 in
-      let more : List (Reply (Option Given)) = replicate k (is none) in
-      omega (arith, one-each j, length-append more (is (some back) ∷ []), length-replicate {A = Reply (Option Given)} k (is none))
-
   module _ (buffer room : List ℕ) (h : HasRoom room j) (g : j .buffer ≤ length buffer) where
     abbrev start : State
     start = let w = j .wanted in runFrom (chain-laws.startOf (w .class) (w .instruction) (w .p1) (w .p2) (w .le) (j .buffer))
@@ -67,13 +55,13 @@ module _ (j : Job) (f : Fair j) where
     abbrev end : Ended
     end = runIn (length d + 1) start d buffer room
 
-    ended : Comes end (0 + suc (length (pieces j) - 1)) (0 + (length (pieces j) - 1)) (back .command) (over d room)
+    ended : Comes end (0 + suc (length (pieces j) - 1)) (0 + (length (pieces j) - 1)) (givenTo j .command) (over d room)
     unfolding repliesTo
     ended =
         let w = j .wanted in
         let one : length (pieces j) + 1 ≡ suc (length (pieces j)) = omega arith in
         let chain = chain-laws.startOf (w .class) (w .instruction) (w .p1) (w .p2) (w .le) (j .buffer) in
-        comes d (f .few) _ (over d room) back (length (pieces j) - 1) (pieces j) (length d + 1) start buffer room
+        comes d (omega (arith, f .few)) _ (over d room) (givenTo j) (length (pieces j) - 1) (pieces j) (length d + 1) start buffer room
         (sym (ap (λ (k : ℕ). answers k chain d) one) ∙ pieces-given j f .1 1)
         (every-weaken (λ (p : List ℕ). length p ≤ length buffer) (λ (p : List ℕ). length p ≤ j .buffer) (pieces j)
         (λ p i. omega (arith, i, g)) (every-piece-fits j f))
@@ -85,13 +73,15 @@ module _ (j : Job) (f : Fair j) where
     numbers =
         let e = ended in
         ap (λ (k : ℕ). k ∷ end .state .pieces ∷ end .state .more ∷ commandNumbers (end .state .last)) (e .number)
-        ∙ ap (λ (k : ℕ). 0 ∷ k ∷ end .state .more ∷ commandNumbers (end .state .last)) (e .pieces ∙ omega (arith, some-piece))
+        ∙ ap (λ (k : ℕ). 0 ∷ k ∷ end .state .more ∷ commandNumbers (end .state .last)) (e .pieces ∙ omega (arith, some-piece j f))
         ∙ ap (λ (k : ℕ). 0 ∷ length (pieces j) ∷ k ∷ commandNumbers (end .state .last)) (e .more ∙ omega arith)
         ∙ ap (λ (c : Command). 0 ∷ length (pieces j) ∷ (length (pieces j) - 1) ∷ commandNumbers c) (e .last)
 
     -- asked with a fair job, a buffer that holds its pieces, a room for its data and a slice for ten numbers
     pub comes-back : (out : List ℕ) (r : ℕ) (buffer′ room′ out′ : List ℕ) → 10 ≤ length out
-        → RelayedFor j buffer room out r buffer′ room′ out′ → ComesBack j room out r room′ out′
+        → let w = j .wanted in
+        cut-and-join-is (w .class) (w .instruction) (w .p1) (w .p2) (w .le) (w .«data») (j .buffer) buffer room out r buffer′ room′ out′
+        → ComesBack j room out r room′ out′
     comes-back out r buffer′ room′ out′ ten t =
         let made = pieces-given j f .0 in
         let u : Tells (is end) buffer room out r buffer′ room′ out′ = rw (le-ltb (length out) 10 ten, made) at t in

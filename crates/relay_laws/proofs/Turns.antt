@@ -13,7 +13,7 @@ use Rattle.splitter.specs.declared.pieces.Written.{Written}
 use Rattle.splitter_laws.specs.Chain.{bytesIn}
 use Rattle.splitter_laws.proofs.Written.{piece-written, piece-in-buffer}
 use Rattle.reassembler.specs.Join.{joinOf}
-use Rattle.chain.proofs.Jobs.{front}
+use Rattle.chain.proofs.Cuts.{front}
 use Rattle.exports_relay.specs.Relay.{nextBy, afterOf, writtenIn, joinedIn, Turned, turnOf, runBy, runIn, Ended}
 use Rattle.exports_relay.specs.declared.State.{State}
 

@@ -4,20 +4,13 @@ use mathlib.Core.Path.{_≡_}
 use mathlib.Core.List.{List, _∷_}
 use lib.ListN.{length}
 use Rattle.basis.specs.Part.{over}
-use Rattle.chain.specs.Jobs.{Job, pieces, several, given}
+use Rattle.chain.specs.Jobs.{Job, pieces, givenTo}
 use Rattle.exports_owned.specs.Copies.{commandNumbers}
-use Rattle.exports_relay.specs.Relay.{cut-and-join-is}
-
--- the promise of `gorvisclen_cut_and_join`, asked with a job
-abbrev pub RelayedFor : Job → List ℕ → List ℕ → List ℕ → ℕ → List ℕ → List ℕ → List ℕ → Type 0
-RelayedFor j buffer room out r buffer′ room′ out′ =
-    let w = j .wanted in
-    cut-and-join-is (w .class) (w .instruction) (w .p1) (w .p2) (w .le) (w .«data») (j .buffer) buffer room out r buffer′ room′ out′
 
 -- the ten numbers: no refusal, all pieces, "more" to all but the last, and the command that is wanted
 abbrev pub numbersFor : Job → List ℕ
 numbersFor j =
-    0 ∷ length (pieces j) ∷ (length (pieces j) - 1) ∷ commandNumbers (given (j .wanted) (several (pieces j)) .command)
+    0 ∷ length (pieces j) ∷ (length (pieces j) - 1) ∷ commandNumbers (givenTo j .command)
 
 -- the command came back: these numbers are told, and its data stand at the room's front, all else as it was
 pub record ComesBack (j : Job) (room out : List ℕ) (r : ℕ) (room′ out′ : List ℕ) : Type 0 where
