@@ -32,7 +32,7 @@ use Rattle.splitter.specs.Step.{most, firstOf, laterOf}
 use Rattle.splitter.specs.Pieces.{Part, parts, pieceOf, piecesOf}
 use Rattle.splitter_laws.proofs.Cut.{room-is, cut}
 use Rattle.splitter_laws.proofs.Parts.{later-le, later-shown}
-use Rattle.reassembler.specs.Join.{continues, heldBy, endingOf, commandIn, heldOf, joinOf}
+use Rattle.reassembler.specs.Join.{continues, heldBy, endingOf, heldOf, joinOf}
 use Rattle.reassembler.specs.declared.Reassembler.{Reassembler}
 use Rattle.reassembler.specs.declared.Reassembler.the-variants.{Closed, Open}
 use Rattle.reassembler.proofs.Headers.{same-class-is, continues-is}
@@ -83,30 +83,22 @@ pub record Sends (b : CommandBuilder) (d : List ℕ) (ps : List Part) : Type 0 w
   pub sent : Sendable b → (r : Reassembler) (room : List ℕ) → Ready r b → heldBy r + length d ≤ length room
       → run r room (map pieceOf ps) ≡ ran (length ps - 1) (givenBy r b d room (flag r b (length d) (length ps))) (put (heldBy r) d room)
 
--- the last piece's expected length is its own
-ending-le : (r : Reassembler) (v : CommandView) → endingOf r v .le ≡ v .le
-ending-le Closed v = refl
-ending-le (Open h) v = refl
-
 -- a command that fits as it is
 module _ (b : CommandBuilder) (d : List ℕ) (few : length d ≤ 65535) (s : Sendable b) (r : Reassembler) (room : List ℕ)
     (ready : Ready r b) (room-left : heldBy r + length d ≤ length room) where
   whole-read : ReadAs Crate (commandOf b d) (viewFor b (length d)) d
   whole-read = built-read Crate b d (λ e. omega (arith, s .clear)) (s .le) few
 
-  whole-joined : joinOf r room (commandOf b d)
-      ≡ record {
-        reply = is (some (commandIn r (viewFor b (length d)) (heldBy r + length d)));
-        state = Closed;
-        room = put (heldBy r) d room;
-      }
+  abbrev whole : Given
+  whole = givenBy r b d room (endingOf r (viewFor b (length d)) .extended)
+
+  whole-joined : joinOf r room (commandOf b d) ≡ record { reply = is (some (whole .command)); state = Closed; room = put (heldBy r) d room }
   whole-joined =
       let v = viewFor b (length d) in
       step-last r room (commandOf b d) v d (whole-read .view) (whole-read .part) (ready v refl refl refl refl) room-left (s .clear)
 
-  whole-sent : run r room (commandOf b d ∷ [])
-      ≡ ran 0 (givenBy r b d room (endingOf r (viewFor b (length d)) .extended)) (put (heldBy r) d room)
-  whole-sent = run-first r room (commandOf b d) [] _ whole-joined ∙ rw (run-none, ending-le r (viewFor b (length d)))
+  whole-sent : run r room (commandOf b d ∷ []) ≡ ran 0 whole (put (heldBy r) d room)
+  whole-sent = run-first r room (commandOf b d) [] _ whole-joined ∙ rw run-none
 
 -- what is lowered is still an expected length
 later-expected : (b : CommandBuilder) (m : ExtendedLen) → b .mode ≡ m → Expected (b .le) → Expected (laterOf b .le)

@@ -35,10 +35,14 @@ module _ (r : Reading) (s room : List ℕ) where
         buffer = g ∙ rw (part r s v e, e, le-ltb (length room) (v .len) h);
       }
 
--- held and new data that a room has place for
+-- held and new data that a room has place for, and that exceed it
 pub extend-is : (held n m : ℕ) → held + n ≤ m → extendOf held n m ≡ is (held + n)
 unfolding extendOf
 extend-is held n m h = rw (le-ltb m (held + n) h)
+
+pub extend-no : (held n m : ℕ) → m < held + n → extendOf held n m ≡ no 18
+unfolding extendOf
+extend-no held n m h = rw (lt-ltb m (held + n) h)
 
 -- an extension: new data do not fit, or stand behind those held
 module _ (c : Command) (v : CommandView) (d room : List ℕ) where

@@ -37,9 +37,9 @@ module _ (r : Reassembler) (v : CommandView) (n : ℕ) where
 -- a piece that was read
 module _ (r : Reassembler) (v : CommandView) (d room : List ℕ) where
   -- it does not continue the chain
-  pub apart : (x : Joined) → continues r v ≡ false → Says (no 17) r x → Joins (viewIn r room v d) x room
+  pub apart : (x : Joined) (k : ℕ) → continues r v ≡ false → Says (no k) r x → k ≡ 17 → Joins (viewIn r room v d) x room
   unfolding lengthOf
-  apart x e s = record { says = rw e s; buffer = rw e }
+  apart x k e s n = record { says = rw (e, ← n) s; buffer = rw e }
 
   -- it does, and the command before was extended by its data
   module _ (c : continues r v ≡ true) (h : ℕ) (before : Command) (y : Extended) (after : List ℕ) (l : h ≡ heldBy r)

@@ -1,12 +1,12 @@
 -- Laws of a piece joined, for the floors above: one that is accepted, and one that is refused. Assumes nothing.
-use Prim.Native.Nat.{ℕ, _+_, _≤_}
+use Prim.Native.Nat.{ℕ, _+_, _-_, _*_, _/_, _%_, _≤_, _<_}
 use mathlib.Core.Path.{_≡_, refl, sym, ap, _∙_}
 use mathlib.Core.Bool.{Bool, true, false}
 use mathlib.Core.List.{List}
 use mathlib.Core.Option.{none, some}
 use native.Mathlib.Omega.{arith}
-use borrow.Author.Tests.{eq-eqb, ne-eqb}
-use lib.Dec.{ltb}
+use borrow.Author.Tests.{eq-eqb, ne-eqb, leb-true, leb-false}
+use lib.Dec.{leb}
 use lib.ListN.{length}
 use Rattle.basis.specs.Reply.{Reply, is, no, status}
 use Rattle.basis.specs.Part.{put}
@@ -16,29 +16,71 @@ use Rattle.class.specs.declared.Reading.the-variants.{Crate}
 use Rattle.command.specs.Command.{parse, dataIn}
 use Rattle.command.specs.Owned.{extendOf}
 use Rattle.command.specs.declared.CommandView.{CommandView}
-use Rattle.command.proofs.Rooms.{extend-is}
-use Rattle.reassembler.specs.Join.{continuesOpen, SameHeader, continues, heldBy, commandIn, lengthOf, heldOf, answerOf, stateOf, Outcome, refusedOf, takenIn, parsedIn, joinOf}
+use Rattle.command.proofs.Rooms.{extend-is, extend-no}
+use Rattle.reassembler.specs.Join.{continuesOpen, SameHeader, continues, heldBy, endingOf, lengthOf, heldOf, answerOf, stateOf, Outcome, refusedOf, takenIn, parsedIn, joinOf}
 use Rattle.reassembler.specs.declared.Held.{Held}
 use Rattle.reassembler.specs.declared.Reassembler.{Reassembler}
 use Rattle.reassembler.specs.declared.Reassembler.the-variants.{Closed, Open}
 use Rattle.reassembler.proofs.Headers.{continues-same, same-continues}
 
--- a piece that is read, continues the chain and has room
+-- the last piece's expected length is its own
+ending-le : (r : Reassembler) (v : CommandView) → endingOf r v .le ≡ v .le
+ending-le Closed v = refl
+ending-le (Open h) v = refl
+
+-- a piece that is read and continues the chain
 module _ (r : Reassembler) (room s : List ℕ) (v : CommandView) (d : List ℕ) (read : parse Crate s ≡ is v)
-    (part : dataIn s (parse Crate s) ≡ d) (c : continues r v ≡ true) (room-left : heldBy r + length d ≤ length room) where
-  accepted : joinOf r room s ≡ takenIn r room v d (is (heldBy r + length d))
+    (part : dataIn s (parse Crate s) ≡ d) (c : continues r v ≡ true) where
+  by-length : (x : Reply ℕ) → extendOf (heldBy r) (length d) (length room) ≡ x → joinOf r room s ≡ takenIn r room v d x
   unfolding joinOf lengthOf
-  accepted = rw (read, sym (ap (dataIn s) read) ∙ part, c, extend-is (heldBy r) (length d) (length room) room-left)
+  by-length x e = rw (read, sym (ap (dataIn s) read) ∙ part, c, e)
 
-  pub step-more : bit (v .class .cla) ≡ 1
-      → joinOf r room s ≡ record { reply = is none; state = Open (heldOf v (heldBy r + length d)); room = put (heldBy r) d room }
-  unfolding answerOf stateOf
-  step-more h = accepted ∙ rw (eq-eqb (bit (v .class .cla)) 1 h)
+  -- 18: the data held and its own exceed the room
+  pub step-no-room : length room < heldBy r + length d → joinOf r room s ≡ record { reply = no 18; state = r; room = room }
+  step-no-room h = by-length (no 18) (extend-no (heldBy r) (length d) (length room) h)
 
-  pub step-last : bit (v .class .cla) ≡ 0
-      → joinOf r room s ≡ record { reply = is (some (commandIn r v (heldBy r + length d))); state = Closed; room = put (heldBy r) d room }
-  unfolding answerOf stateOf
-  step-last h = accepted ∙ rw (ne-eqb (bit (v .class .cla)) 1 (omega arith))
+  -- there is room: more where the bit is set, else the command
+  module _ (room-left : heldBy r + length d ≤ length room) where
+    accepted : joinOf r room s ≡ takenIn r room v d (is (heldBy r + length d))
+    accepted = by-length (is (heldBy r + length d)) (extend-is (heldBy r) (length d) (length room) room-left)
+
+    pub step-more : bit (v .class .cla) ≡ 1
+        → joinOf r room s
+        ≡ record {
+          reply = is none;
+          state =
+              Open (record { class = v .class; instruction = v .instruction; p1 = v .p1; p2 = v .p2; len = heldBy r + length d });
+          room = put (heldBy r) d room;
+        }
+    unfolding answerOf stateOf
+    step-more h = accepted ∙ rw (eq-eqb (bit (v .class .cla)) 1 h)
+
+    pub step-last : bit (v .class .cla) ≡ 0
+        → joinOf r room s
+        ≡ record {
+          reply =
+              is
+              (some
+              (record {
+                class = v .class;
+                instruction = v .instruction;
+                p1 = v .p1;
+                p2 = v .p2;
+                len = heldBy r + length d;
+                le = v .le;
+                extended = endingOf r v .extended;
+              }));
+          state = Closed;
+          room = put (heldBy r) d room;
+        }
+    unfolding answerOf stateOf
+    step-last h = accepted ∙ rw (ne-eqb (bit (v .class .cla)) 1 (omega arith), ending-le r v)
+
+-- what a header has to be: the same class apart from bit 0x10, instruction, P1 and P2
+pub header-from : (h : Held) (v : CommandView)
+    → h .class .cla - 16 * (h .class .cla / 16 % 2) ≡ v .class .cla - 16 * (v .class .cla / 16 % 2) → h .instruction ≡ v .instruction
+    → h .p1 ≡ v .p1 → h .p2 ≡ v .p2 → SameHeader h v
+header-from h v class instruction p1 p2 = omega arith
 
 -- 17: a piece that is read is refused with it exactly where a chain is open and it has not its header
 module _ (h : Held) (room s : List ℕ) (v : CommandView) (read : parse Crate s ≡ is v) where
@@ -47,24 +89,22 @@ module _ (h : Held) (room s : List ℕ) (v : CommandView) (read : parse Crate s 
   other true e f = absurd (f refl)
   other false e f = rw (read, e)
 
-  pub other-header : (SameHeader h v → ⊥) → joinOf (Open h) room s ≡ refusedOf (Open h) room 17
+  pub other-header : (SameHeader h v → ⊥) → joinOf (Open h) room s ≡ record { reply = no 17; state = Open h; room = room }
   other-header f = other (continuesOpen h v) refl (λ e. f (continues-same h v e))
 
-  not-17 : (held n m : ℕ) (x : Bool) → ltb m (held + n) ≡ x → extendOf held n m ≡ no 17 → ⊥
-  unfolding extendOf
-  not-17 held n m true q e = let k : _≡_ {A = ℕ} 18 17 = ap status (rw q at e) in omega arith
-  not-17 held n m false q e = no-is 17 (held + n) (sym (rw q at e))
-
-  taken-not : (d : List ℕ) (z : Reply ℕ) → (z ≡ no 17 → ⊥) → takenIn (Open h) room v d z .reply ≡ no 17 → ⊥
-  taken-not d (is n) f e = no-is 17 (answerOf (Open h) v n) (sym e)
-  taken-not d (no k) f e = f (ap no (ap status e))
+  by-room : SameHeader h v → (x : Bool) → leb (h .len + length (dataIn s (is v))) (length room) ≡ x → joinOf (Open h) room s .reply ≡ no 17 → ⊥
+  by-room t true q e =
+      let d = dataIn s (is v) in
+      let g = accepted (Open h) room s v d read (ap (dataIn s) read) (same-continues h v t) (leb-true (h .len + length d) (length room) q) in
+      no-is 17 (answerOf (Open h) v (h .len + length d)) (sym e ∙ ap (λ (o : Outcome). o .reply) g)
+  by-room t false q e =
+      let d = dataIn s (is v) in
+      let g = step-no-room (Open h) room s v d read (ap (dataIn s) read) (same-continues h v t) (leb-false (h .len + length d) (length room) q) in
+      let k : _≡_ {A = ℕ} 17 18 = ap status (sym e ∙ ap (λ (o : Outcome). o .reply) g) in
+      omega arith
 
   pub same-header : SameHeader h v → joinOf (Open h) room s .reply ≡ no 17 → ⊥
-  unfolding joinOf lengthOf
-  same-header t e =
-      let d = dataIn s (is v) in
-      taken-not d (extendOf (h .len) (length d) (length room)) (not-17 (h .len) (length d) (length room) _ refl)
-      (rw (read, same-continues h v t) at e)
+  same-header t e = by-room t (leb (h .len + length (dataIn s (is v))) (length room)) refl e
 
 -- the record behind a piece that leaves the chain open has the header of the pieces before it
 pub header-kept : (h : Held) (v : CommandView) (n : ℕ) → SameHeader h v → bit (v .class .cla) ≡ 1

@@ -12,21 +12,30 @@ class : (c : tie.Else1) → let a = c .before .before .before .before .args in s
 class c = sym (c .before .same-class .ensures) ∙ not-false _ (c .if1 .left)
 
 returns : tie.Need-returns
-returns c = not-class _ _ (sym (c .before .same-class .ensures) ∙ not-true _ (c .if1 .taken))
+returns c =
+    let a = c .before .before .before .before .args in
+    not-class (a .held) (a .view) (sym (c .before .same-class .ensures) ∙ not-true _ (c .if1 .taken))
 
 returns-2 : tie.Need-returns-2
-returns-2 c = not-instruction _ _ (class (c .before .before .before)) (c .if2 .taken)
+returns-2 c =
+    let e = c .before .before .before in
+    let a = e .before .before .before .before .args in
+    not-instruction (a .held) (a .view) (class e) (c .if2 .taken)
 
 returns-3 : tie.Need-returns-3
 returns-3 c =
     let i = c .before .before .before in
-    not-p1 _ _ (class (i .before .before .before)) (i .if2 .left) (c .if3 .taken)
+    let e = i .before .before .before in
+    let a = e .before .before .before .before .args in
+    not-p1 (a .held) (a .view) (class e) (i .if2 .left) (c .if3 .taken)
 
 returns-4 : tie.Need-returns-4
 returns-4 c =
     let p = c .before .before in
     let i = p .before .before .before in
-    by-p2 _ _ (class (i .before .before .before)) (i .if2 .left) (p .if3 .left)
+    let e = i .before .before .before in
+    let a = e .before .before .before .before .args in
+    by-p2 (a .held) (a .view) (class e) (i .if2 .left) (p .if3 .left)
 
 pub continues-open-spec : {M : Type 1} → statement M
 continues-open-spec = tie.close (tie.spec (λ c κs. search needs) returns returns-2 returns-3 returns-4)

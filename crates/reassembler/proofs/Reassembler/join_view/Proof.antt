@@ -1,6 +1,7 @@
 use borrow.Author.Needs.{needs}
 use borrow.Author.Tests.{not-true, not-false}
 use mathlib.Core.Path.{sym, _∙_}
+use native.Mathlib.Omega.{arith}
 use Rattle.reassembler.proofs.Pieces.{apart, refused, taken}
 use Rattle.reassembler.proofs.Reassembler.join_view.Statement.{statement}
 use Rattle.reassembler.proofs.Reassembler.join_view.Tie as tie
@@ -10,7 +11,8 @@ returns c =
     let i = c .before in
     let n = i .before in
     let a = n .before .before .before .args in
-    apart (a .self) (a .view) (a .«data» .now) (a .room .now) _ (sym (n .continues .ensures) ∙ not-true _ (i .if1 .taken)) (c .refused .ensures)
+    apart (a .self) (a .view) (a .«data» .now) (a .room .now) _ _ (sym (n .continues .ensures) ∙ not-true _ (i .if1 .taken)) (c .refused .ensures)
+    (omega arith)
 
 returns-2 : tie.Need-returns-2
 returns-2 c =
