@@ -1,26 +1,24 @@
 -- One command in short form, sent through a closed reassembler. Assumes nothing.
-use Prim.Native.Nat.{ℕ, _-_, _/_, _%_, _≤_}
+use Prim.Native.Nat.{ℕ, _/_, _%_, _≤_}
 use mathlib.Core.Path.{_≡_, refl, _∙_}
 use mathlib.Core.Logic.{_≢_}
 use mathlib.Core.Bool.{Bool, true, false, cond}
 use mathlib.Core.List.{List}
-use mathlib.Core.Option.{Option, none, some}
 use native.Mathlib.Omega.{arith}
 use native.Mathlib.Decide.{decLe}
 use borrow.Author.Tests.{lt-ltb, le-ltb}
 use lib.Dec.{ltb}
 use lib.ListN.{length, length-map, length-append, length-replicate}
-use Rattle.basis.specs.Reply.{Reply, is}
 use Rattle.basis.specs.Part.{over}
 use Rattle.builder.specs.Bytes.{leShown}
 use Rattle.builder.specs.declared.CommandBuilder.{CommandBuilder}
 use Rattle.builder_laws.specs.Read.{extendedFor}
 use Rattle.builder_laws.proofs.Shown.{le-read, shown-short, extended-read}
-use Rattle.splitter.specs.Pieces.{Part, parts, pieceOf}
+use Rattle.splitter.specs.Pieces.{parts, pieceOf}
 use Rattle.splitter_laws.specs.Chain.{shortOf}
 use Rattle.reassembler.specs.declared.Reassembler.the-variants.{Closed}
-use Rattle.chain.specs.Run.{Given, run}
-use Rattle.chain.specs.Jobs.{Job, Fair, HasRoom, pieces, givenTo, repliesTo}
+use Rattle.chain.specs.Run.{run}
+use Rattle.chain.specs.Jobs.{Job, Fair, HasRoom, pieces, repliesTo}
 use Rattle.chain.proofs.Cuts.{cut-sends, command-back}
 
 -- what is asked of a job, and of a room: the words of demand 3, in numbers

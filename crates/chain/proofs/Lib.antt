@@ -3,3 +3,4 @@ pub mod Cuts
 pub mod Jobs
 pub mod Noise
 pub mod Demand
+pub mod Places

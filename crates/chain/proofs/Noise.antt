@@ -1,11 +1,11 @@
 -- Pieces that are refused where they stand change nothing. Assumes nothing.
 use Prim.Native.Nat.{ℕ}
-use mathlib.Core.Path.{_≡_, refl, sym, ap, _∙_}
+use mathlib.Core.Path.{_≡_, refl, ap, _∙_}
 use mathlib.Core.List.{List, [], _∷_, _++_}
 use lib.ListN.{length, take, drop}
 use lib.Seq.{take-at, drop-at}
 use Rattle.basis.specs.Reply.{no}
-use Rattle.reassembler.specs.Join.{Outcome, joinOf}
+use Rattle.reassembler.specs.Join.{joinOf}
 use Rattle.reassembler.specs.declared.Reassembler.{Reassembler}
 use Rattle.reassembler.proofs.Steps.{refused-kept}
 use Rattle.chain.specs.Run.{heardIn, heard, Run, behind, run}

@@ -1,7 +1,7 @@
 -- Demand 3 (docs/PROMISES.md) for `gorvisclen_cut_and_join`: a fair command comes back. Assumes nothing.
 use Prim.Native.Nat.{ℕ, zero, suc, _+_, _-_, _≤_}
 use mathlib.Core.Path.{_≡_, sym, ap, _∙_}
-use mathlib.Core.List.{List, [], _∷_}
+use mathlib.Core.List.{List, _∷_}
 use mathlib.Core.Option.{Option, none, some}
 use native.Mathlib.Omega.{arith}
 use borrow.Author.Tests.{le-ltb}
@@ -44,6 +44,11 @@ unfolding parts
 few-pieces b d m =
     omega (arith, length-map (parts b d m) pieceOf, few-parts m (suc (length d)) b d)
 
+-- three numbers and those of a command
+all-numbers : {k k′ p p′ m m′ : ℕ} {c c′ : Command} → k ≡ k′ → p ≡ p′ → m ≡ m′ → c ≡ c′
+    → _≡_ {A = List ℕ} (k ∷ p ∷ m ∷ commandNumbers c) (k′ ∷ p′ ∷ m′ ∷ commandNumbers c′)
+all-numbers e f g h = λ i. e i ∷ f i ∷ g i ∷ commandNumbers (h i)
+
 module _ (j : Job) (f : Fair j) where
   abbrev d : List ℕ
   d = j .wanted .«data»
@@ -72,10 +77,7 @@ module _ (j : Job) (f : Fair j) where
     unfolding stateNumbers
     numbers =
         let e = ended in
-        ap (λ (k : ℕ). k ∷ end .state .pieces ∷ end .state .more ∷ commandNumbers (end .state .last)) (e .number)
-        ∙ ap (λ (k : ℕ). 0 ∷ k ∷ end .state .more ∷ commandNumbers (end .state .last)) (e .pieces ∙ omega (arith, some-piece j f))
-        ∙ ap (λ (k : ℕ). 0 ∷ length (pieces j) ∷ k ∷ commandNumbers (end .state .last)) (e .more ∙ omega arith)
-        ∙ ap (λ (c : Command). 0 ∷ length (pieces j) ∷ (length (pieces j) - 1) ∷ commandNumbers c) (e .last)
+        all-numbers (e .number) (omega (arith, e .pieces, some-piece j f)) (omega (arith, e .more)) (e .last)
 
     -- asked with a fair job, a buffer that holds its pieces, a room for its data and a slice for ten numbers
     pub comes-back : (out : List ℕ) (r : ℕ) (buffer′ room′ out′ : List ℕ) → 10 ≤ length out
