@@ -1,11 +1,15 @@
 -- Laws of runs: a piece, and lists of pieces one behind the other. Assumes nothing.
 use Prim.Native.Nat.{ℕ, suc}
-use mathlib.Core.Path.{_≡_, refl, ap, _∙_}
+use mathlib.Core.Path.{_≡_, refl, sym, ap, _∙_}
 use mathlib.Core.List.{List, [], _∷_, _++_}
+use mathlib.Core.Option.{some}
 use lib.ListN.{length}
-use Rattle.reassembler.specs.Join.{Outcome, joinOf}
+use Rattle.basis.specs.Reply.{is}
+use Rattle.command.specs.declared.owned.Command.{Command}
+use Rattle.reassembler.specs.Join.{Outcome, joinOf, said, join-is, data-is}
+use Rattle.reassembler.specs.declared.Joined.{Joined}
 use Rattle.reassembler.specs.declared.Reassembler.{Reassembler}
-use Rattle.chain.specs.Run.{heard, Run, behind, run}
+use Rattle.chain.specs.Run.{heardIn, heard, Run, behind, run}
 
 pub run-none : (r : Reassembler) (room : List ℕ) → run r room [] ≡ record { replies = []; state = r; room = room }
 unfolding run
@@ -16,6 +20,17 @@ pub run-first : (r : Reassembler) (room p : List ℕ) (ps : List (List ℕ)) (o 
     → run r room (p ∷ ps) ≡ behind (heard o) (run (o .state) (o .room) ps)
 unfolding run
 run-first r room p ps o e = ap (λ (o : Outcome). behind (heard o) (run (o .state) (o .room) ps)) e
+
+-- a run is what a caller of `join` sees, piece after piece, by the promise of `join`; and of `data`, where the answer is a command
+pub run-called : (r : Reassembler) (room p : List ℕ) (ps : List (List ℕ)) (x : Joined) (after : List ℕ) → join-is r p room x after
+    → run r room (p ∷ ps) ≡ behind (heardIn (said (x .answer)) after) (run (x .rest) after ps)
+run-called r room p ps x after h =
+    run-first r room p ps (record { reply = said (x .answer); state = x .rest; room = after })
+    (λ i. record { reply = sym (h .says .reply) i; state = sym (h .says .state) i; room = sym (h .buffer) i })
+
+pub heard-data : (c : Command) (room d : List ℕ) → data-is c room d
+    → heardIn (is (some c)) room ≡ is (some (record { command = c; «data» = d }))
+heard-data c room d h = ap (λ l. is (some (record { command = c; «data» = l }))) (sym h)
 
 -- a run behind another
 abbrev pub then : Run → Run → Run
