@@ -1,14 +1,12 @@
 -- Which case is used for how many data bytes and which Le, and what follows for the bytes of Lc and Le. Assumes nothing.
-use Prim.Native.Nat.{ℕ, zero, suc, _+_, _≤_, _<_, zero-le}
+use Prim.Native.Nat.{ℕ, zero, suc, _≤_, zero-le}
 use mathlib.Core.Path.{_≡_, refl}
-use mathlib.Core.Bool.{true, false, cond}
 use native.Mathlib.Decide.{decLe}
 use native.Mathlib.Omega.{arith}
 use borrow.Author.Tests.{le-leb, lt-leb, lt-ltb, le-ltb}
 use Rattle.builder.specs.Cases.{Case, case1, case2S, case3S, case4S, case2E, case3E, case4E}
 use Rattle.builder.specs.Cases.{lcBytes, leBytes, unlessForced, withData, afterShort, afterExtended, caseFor}
 use Rattle.builder.specs.Bytes.{leShown, caseOf, lcLen, leLen}
-use Rattle.builder.specs.declared.ExpectedLen.the-variants.{Ne}
 use Rattle.builder.specs.declared.ExtendedLen.{ExtendedLen}
 use Rattle.builder.specs.declared.ExtendedLen.the-variants.{Unsupported, Supported, Forced}
 use Rattle.builder.specs.declared.CommandBuilder.{CommandBuilder}

@@ -1,7 +1,7 @@
 -- The expected length that is shown: the one asked for, save that short mode lowers it to at most 256. When lengths are extended.
 -- Assumes nothing.
 use Prim.Native.Nat.{ℕ, zero, suc, _+_, _≤_, _<_}
-use mathlib.Core.Path.{_≡_, refl, sym, ap, _∙_}
+use mathlib.Core.Path.{_≡_, refl, ap}
 use mathlib.Core.Bool.{true, false}
 use native.Mathlib.Decide.{decLe}
 use native.Mathlib.Omega.{arith}

@@ -1,7 +1,7 @@
 -- The pieces of one command, in every mode, sent through a reassembler that is closed or holds earlier pieces of it: every reply but
 -- the last is "more", and the last one is the command. Assumes nothing.
 use Prim.Native.Nat.{ℕ, zero, suc, _+_, _-_, _/_, _%_, _≤_, _<_}
-use mathlib.Core.Path.{_≡_, refl, sym, ap, _∙_, subst}
+use mathlib.Core.Path.{_≡_, refl, sym, ap, _∙_}
 use mathlib.Core.Bool.{Bool, true, false, cond}
 use mathlib.Core.List.{List, [], _∷_, _++_, map}
 use mathlib.Core.Logic.{_≢_}
@@ -19,19 +19,16 @@ use Rattle.class.specs.Chain.{bit, chained}
 use Rattle.class.specs.declared.Reading.the-variants.{Crate}
 use Rattle.command.specs.declared.CommandView.{CommandView}
 use Rattle.command.proofs.Cases.{ReadAs}
-use Rattle.builder.specs.Bytes.{leShown, commandOf}
+use Rattle.builder.specs.Bytes.{loweredOf, leShown, commandOf}
 use Rattle.builder.specs.declared.CommandBuilder.{CommandBuilder}
 use Rattle.builder.specs.declared.ExpectedLen.{ExpectedLen}
 use Rattle.builder.specs.declared.ExpectedLen.the-variants.{Ne, Max}
-use Rattle.builder.specs.declared.ExtendedLen.{ExtendedLen}
-use Rattle.builder.specs.declared.ExtendedLen.the-variants.{Unsupported, Supported, Forced}
 use Rattle.builder_laws.specs.Read.{Expected, extendedFor, viewFor}
 use Rattle.builder_laws.proofs.Read.{built-read}
-use Rattle.builder_laws.proofs.Shown.{shown-short}
-use Rattle.splitter.specs.Step.{most, firstOf, laterOf}
+use Rattle.builder_laws.proofs.Shown.{lowered-expected, lowered-shown}
+use Rattle.splitter.specs.Step.{most, firstOf}
 use Rattle.splitter.specs.Pieces.{Part, parts, pieceOf, piecesOf}
 use Rattle.splitter_laws.proofs.Cut.{room-is, cut}
-use Rattle.splitter_laws.proofs.Parts.{later-le, later-shown}
 use Rattle.reassembler.specs.Join.{continues, heldBy, endingOf, heldOf, joinOf}
 use Rattle.reassembler.specs.declared.Reassembler.{Reassembler}
 use Rattle.reassembler.specs.declared.Reassembler.the-variants.{Closed, Open}
@@ -100,14 +97,9 @@ module _ (b : CommandBuilder) (d : List ℕ) (few : length d ≤ 65535) (s : Sen
   whole-sent : run r room (commandOf b d ∷ []) ≡ ran 0 whole (put (heldBy r) d room)
   whole-sent = run-first r room (commandOf b d) [] _ whole-joined ∙ rw run-none
 
--- what is lowered is still an expected length
-later-expected : (b : CommandBuilder) (m : ExtendedLen) → b .mode ≡ m → Expected (b .le) → Expected (laterOf b .le)
-later-expected b Unsupported q h = subst (λ (e : ExpectedLen). Expected e) (sym (later-le b q)) (omega (arith, shown-short b q))
-later-expected b Supported q h = rw q h
-later-expected b Forced q h = rw q h
-
-later-sendable : (b : CommandBuilder) → Sendable b → Sendable (laterOf b)
-later-sendable b s = record { clear = s .clear; class = s .class; le = later-expected b (b .mode) refl (s .le) }
+-- what is left when a part is split off
+later-sendable : (b : CommandBuilder) → Sendable b → Sendable (loweredOf b)
+later-sendable b s = record { clear = s .clear; class = s .class; le = lowered-expected (b .mode) (b .le) (s .le) }
 
 -- true where a chain is open
 both-true : (x : Bool) → cond x true true ≡ true
@@ -123,7 +115,7 @@ chained-again c = omega arith
 
 -- a first part is split off, and the rest is sent behind it
 module _ (b : CommandBuilder) (d : List ℕ) (few : length d ≤ 65535) (k : ℕ) (short : k < length d) (ps : List Part)
-    (later : Sends (laterOf b) (drop k d) ps) (s : Sendable b) (r : Reassembler) (room : List ℕ) (ready : Ready r b)
+    (later : Sends (loweredOf b) (drop k d) ps) (s : Sendable b) (r : Reassembler) (room : List ℕ) (ready : Ready r b)
     (room-left : heldBy r + length d ≤ length room) where
   abbrev now : List ℕ
   now = take k d
@@ -149,7 +141,7 @@ module _ (b : CommandBuilder) (d : List ℕ) (few : length d ≤ 65535) (k : ℕ
       step-more r room (commandOf (firstOf b) now) view now (first-read .view) (first-read .part)
       (ready view (omega (arith, s .clear)) refl refl refl) (omega (arith, sizes)) (omega (arith, s .clear))
 
-  rest-ready : Ready held (laterOf b)
+  rest-ready : Ready held (loweredOf b)
   rest-ready v class instruction p1 p2 =
       let h = heldOf view (heldBy r + length now) in
       continues-is h v (same-class-is (h .class) (v .class) (chained-again (b .class .cla) ∙ sym class)) (sym instruction) (sym p1) (sym p2)
@@ -164,7 +156,7 @@ module _ (b : CommandBuilder) (d : List ℕ) (few : length d ≤ 65535) (k : ℕ
       let long = length-put (heldBy r) now room (omega (arith, sizes)) in
       let size : heldBy r + length now + length rest ≡ heldBy r + length d = omega (arith, sizes) in
       later .sent (later-sendable b s) held (put (heldBy r) now room) rest-ready (omega (arith, long, sizes))
-      ∙ rw (both-true (ltb 1 (length ps)), both, size, later-shown b)
+      ∙ rw (both-true (ltb 1 (length ps)), both, size, lowered-shown b)
 
   split-sent : run r room (commandOf (firstOf b) now ∷ map pieceOf ps)
       ≡ ran (length ps) (givenBy r b d room true) (put (heldBy r) d room)

@@ -7,12 +7,12 @@ use native.Mathlib.Omega.{arith}
 use borrow.Author.Tests.{lt-ltb, le-ltb, ltb-true, ltb-false}
 use lib.Dec.{ltb}
 use lib.ListN.{length, take, drop, drop-of-length-le}
-use lib.Seq.{take-length, length-take-le}
-use Rattle.basis.specs.Reply.{Reply, is, no, status}
+use lib.Seq.{take-length}
+use Rattle.basis.specs.Reply.{Reply, is, no}
 use Rattle.basis.specs.Part.{over}
 use Rattle.basis.proofs.Reply.{no-is}
 use Rattle.tell.specs.Answers.{usableOf}
-use Rattle.tlv_write.specs.Written.{objectBytes, unlessOver, putOf, bufferAfter, said, put-data-object-is}
+use Rattle.tlv_write.specs.Written.{objectBytes, putOf, bufferAfter, said, put-data-object-is}
 use Rattle.tlv_write.specs.declared.PutDataObject.{PutDataObject}
 use Rattle.tlv_write.specs.declared.PutDataObject.the-variants.{Written, Refused}
 use Rattle.tlv_write.proofs.Objects.{object-some}

@@ -2,9 +2,7 @@
 use Prim.Native.Nat.{ℕ, _+_, _≤_, _<_}
 use mathlib.Core.Path.{_≡_, refl, sym, ap, _∙_}
 use mathlib.Core.List.{List, [], _∷_, _++_, map, dropLast, append-nil}
-use native.Mathlib.Decide.{decLe}
 use native.Mathlib.Omega.{arith}
-use borrow.Author.Tests.{le-leb, lt-leb}
 use lib.ListN.{length, take, drop, take-append-drop, length-take, length-drop}
 use Rattle.class.specs.Chain.{chained}
 use Rattle.class.specs.declared.Reading.{Reading}

@@ -1,10 +1,8 @@
 use borrow.Author.Needs.{needs}
 use native.Mathlib.Omega.{arith}
-use mathlib.Core.Path.{_≡_, refl}
-use mathlib.Core.List.{_++_}
+use mathlib.Core.Path.{refl}
 use lib.ListN.{length, length-append}
 use Rattle.basis.proofs.Part.{next-over}
-use Rattle.builder.specs.Bytes.{header}
 use Rattle.builder.specs.Sizes.{field}
 use Rattle.builder.proofs.Lengths.{length-field}
 use Rattle.builder.proofs.write.put_command.Statement.{statement}
