@@ -13,6 +13,10 @@ no-is k a e = let z : _≡_ {A = ℕ} 0 1 = cc in omega arith
 pub apart : {A B : Type 0} (said : A → B) (back : B → A) → ((x : A) → back (said x) ≡ x) → (x y : A) → said x ≡ said y → x ≡ y
 apart said back h x y e = sym (h x) ∙ ap back e ∙ h y
 
+-- what the code was told of an answer, in the definition's words
+pub told : {A B : Type 0} (said : A → B) {x y : A} {b : B} → said x ≡ b → x ≡ y → b ≡ said y
+told said e f = sym e ∙ ap said f
+
 -- what holds of whatever a reply gives
 abbrev pub All : {A : Type 0} → (A → Type 0) → Reply A → Type 0
 All P (is a) = P a
