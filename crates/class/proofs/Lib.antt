@@ -1,4 +1,5 @@
 pub mod Bits
+pub mod Bytes
 pub mod Ranges
 pub mod Readings
 pub mod Single

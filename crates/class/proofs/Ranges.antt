@@ -1,11 +1,32 @@
--- The range of a class, from what the code was told of it. Assumes nothing.
-use Prim.Native.Nat.{ℕ}
-use mathlib.Core.Path.{_≡_, sym, ap, _∙_}
-use Rattle.class.specs.Range.{rangeOf}
+-- The range of a class byte, by the bytes that lie in it and by what the code was told of it. Assumes nothing.
+use Prim.Native.Nat.{ℕ, _≤_, _<_}
+use mathlib.Core.Path.{_≡_, ap, _∙_}
+use native.Mathlib.Omega.{arith}
+use borrow.Author.Tests.{lt-ltb, le-ltb}
+use Rattle.basis.proofs.Reply.{told}
+use Rattle.class.specs.Range.{rangeOf, saidRange}
 use Rattle.class.specs.declared.range.Range.{Range}
 use Rattle.class.specs.declared.range.Range.the-variants as range
 use Rattle.class.specs.declared.range.Interindustry.{Interindustry}
 
-pub interindustry : (c : ℕ) (x : Range) (w k : Interindustry) → x ≡ rangeOf c → x ≡ range.Interindustry w → w ≡ k
-    → rangeOf c ≡ range.Interindustry k
-interindustry c x w k e f g = sym e ∙ f ∙ ap range.Interindustry g
+module _ (c : ℕ) where
+  pub is-first : c < 0x20 → rangeOf c ≡ 0
+  unfolding rangeOf
+  is-first h = rw (lt-ltb c 0x20 h)
+
+  pub is-reserved : 0x20 ≤ c → c < 0x40 → rangeOf c ≡ 2
+  unfolding rangeOf
+  is-reserved g h = rw (le-ltb c 0x20 g, lt-ltb c 0x40 h)
+
+  pub is-further : 0x40 ≤ c → c < 0x80 → rangeOf c ≡ 1
+  unfolding rangeOf
+  is-further g h = rw (le-ltb c 0x20 (omega arith), le-ltb c 0x40 g, lt-ltb c 0x80 h)
+
+  pub is-proprietary : 0x80 ≤ c → rangeOf c ≡ 3
+  unfolding rangeOf
+  is-proprietary g = rw (le-ltb c 0x20 (omega arith), le-ltb c 0x40 (omega arith), le-ltb c 0x80 g)
+
+  -- from what the code was told of an answer and of the interindustry range in it
+  pub interindustry : (x : Range) (w k : Interindustry) → saidRange x ≡ rangeOf c → x ≡ range.Interindustry w → w ≡ k
+      → rangeOf c ≡ saidRange (range.Interindustry k)
+  interindustry x w k e f g = told saidRange e (f ∙ ap range.Interindustry g)

@@ -6,6 +6,7 @@ use mathlib.Core.Option.{some}
 use native.Mathlib.Omega.{arith}
 use native.Mathlib.Decide.{decLt, decLe}
 use borrow.Author.Tests.{lt-ltb, le-ltb, eq-eqb, ne-eqb}
+use lib.Bits.{bitOr}
 use lib.Dec.{ltb}
 use Rattle.basis.specs.Differ.{Differ}
 use Rattle.basis.specs.Reply.{no as refused}
@@ -17,65 +18,74 @@ use Rattle.class.specs.Chain.{chained, as-chained-is}
 use Rattle.class.specs.Channel.{channelOf, furtherOf}
 use Rattle.class.specs.declared.Class.{Class}
 use Rattle.class.specs.declared.Reading.the-variants.{Crate, Standard}
-use Rattle.class.specs.declared.range.Range.the-variants.{Interindustry}
-use Rattle.class.specs.declared.range.Interindustry.the-variants.{Further}
+use Rattle.class.proofs.Bits.{chained-or}
+use Rattle.class.proofs.Bytes.{no-class}
+use Rattle.class.proofs.Ranges.{is-first, is-reserved, is-further, is-proprietary}
 
--- a further interindustry class, and any other
-pub record IsFurther (c : ℕ) : Type 0 where
-  pub from : 0x40 ≤ c
-  pub to : c ≤ 0x7F
+-- what the two readings say of 0x40 to 0x7F
+module _ (c : ℕ) (from : 0x40 ≤ c) (to : c ≤ 0x7F) where
+  pub channels-said : (channelOf Crate c ≡ some ((4 + c) % 8)) × (channelOf Standard c ≡ some (4 + c % 16))
+  unfolding channelOf furtherOf
+  channels-said = let h = is-further c from (omega arith) in (rw h, rw h)
 
-abbrev IsOther : ℕ → Type 0
-IsOther c = (c < 0x40) ⊎ (0x7F < c)
+  -- 2 is `Standard`, 0 is `None`
+  pub crate-standard : secureMessagingOf Crate c ≡ 2
+  unfolding secureMessagingOf sm.furtherOf
+  crate-standard = rw (is-further c from (omega arith))
 
-which : (c : ℕ) → IsFurther c ⊎ IsOther c
-which c =
-    elim (decLt c 0x40) [
-      | yes p ↦ inr (inl p)
-      | no p ↦ elim (decLe c 0x7F) [ yes q ↦ inl (record { from = omega arith; to = q }) | no q ↦ inr (inr (omega arith)) ]
-    ]
+  pub standard-none : c ≤ 0x5F → secureMessagingOf Standard c ≡ 0
+  unfolding secureMessagingOf sm.furtherOf
+  standard-none h = rw (is-further c from (omega arith), eq-eqb (c / 32 % 2) 0 (omega arith))
 
-further : (c : ℕ) → IsFurther c → rangeOf c ≡ Interindustry Further
-unfolding rangeOf
-further c h = rw (le-ltb c 0x20 (omega arith), le-ltb c 0x40 (omega arith), lt-ltb c 0x80 (omega arith))
+  pub standard-standard : 0x5F < c → secureMessagingOf Standard c ≡ 2
+  unfolding secureMessagingOf sm.furtherOf
+  standard-standard h = rw (is-further c from (omega arith), ne-eqb (c / 32 % 2) 0 (omega arith))
 
 -- in every other range the reading does not matter
-other : {A : Type 0} (c : ℕ) (a b b′ o : A) → IsOther c → byRange (rangeOf c) a b o ≡ byRange (rangeOf c) a b′ o
-unfolding rangeOf
-other c a b b′ o (inl p) =
-    elim (decLt c 0x20) [ yes q ↦ rw (lt-ltb c 0x20 q) | no q ↦ rw (le-ltb c 0x20 (omega arith), lt-ltb c 0x40 p) ]
-other c a b b′ o (inr p) = rw (le-ltb c 0x20 (omega arith), le-ltb c 0x40 (omega arith), le-ltb c 0x80 (omega arith))
+other : {A : Type 0} (c : ℕ) (a b b′ o : A) → (c < 0x40) ⊎ (0x7F < c) → byRange (rangeOf c) a b o ≡ byRange (rangeOf c) a b′ o
+other c a b b′ o (inl p) = elim (decLt c 0x20) [ yes q ↦ rw (is-first c q) | no q ↦ rw (is-reserved c (omega arith) p) ]
+other c a b b′ o (inr p) = rw (is-proprietary c (omega arith))
 
-pub channels-differ : (c : ℕ) → Differ (IsFurther c × (4 ≤ c % 16)) (channelOf Crate c) (channelOf Standard c)
-unfolding channelOf furtherOf
+-- a byte is below 0x40, above 0x7F, or between
+between : (c : ℕ) → ((0x40 ≤ c) × (c ≤ 0x7F)) ⊎ ((c < 0x40) ⊎ (0x7F < c))
+between c =
+    elim (decLt c 0x40) [
+      | yes p ↦ inr (inl p)
+      | no p ↦ elim (decLe c 0x7F) [ yes q ↦ inl (omega arith, q) | no q ↦ inr (inr (omega arith)) ]
+    ]
+
+pub channels-differ : (c : ℕ) → Differ ((0x40 ≤ c) × (c ≤ 0x7F) × (4 ≤ c % 16)) (channelOf Crate c) (channelOf Standard c)
+unfolding channelOf
 channels-differ c =
     record {
-      differ = λ h e. (let e′ = rw (further c (h .0)) at e in let n : (4 + c) % 8 ≡ 4 + c % 16 = cc in omega arith);
+      differ = λ h e. (let s = channels-said c (h .0) (h .1) in let n : (4 + c) % 8 ≡ 4 + c % 16 = cc in omega arith);
       equal = λ h.
           ⊎-elim
           (λ f.
           elim (decLe 4 (c % 16)) [
-            | yes p ↦ absurd (h (f, p))
-            | no p ↦ rw (further c f) (ap some (omega arith))
+            | yes p ↦ absurd (h (f .0, f .1, p))
+            | no p ↦
+                let s = channels-said c (f .0) (f .1) in let n : (4 + c) % 8 ≡ 4 + c % 16 = omega arith in rw (s .0, s .1, n)
           ])
           (λ o. other c _ _ _ _ o)
-          (which c);
+          (between c);
     }
 
 pub secure-messaging-differs : (c : ℕ) → Differ ((0x40 ≤ c) × (c ≤ 0x5F)) (secureMessagingOf Crate c) (secureMessagingOf Standard c)
-unfolding secureMessagingOf sm.furtherOf
+unfolding secureMessagingOf
 secure-messaging-differs c =
     record {
-      differ = λ h e. (let e′ = rw (further c (record { from = h .0; to = omega arith }), eq-eqb (c / 32 % 2) 0 (omega arith)) at e in let n : _≡_ {A = ℕ} 0 1 = cc in omega arith);
+      differ = λ h e.
+          omega (arith, e, crate-standard c (h .0) (omega arith), standard-none c (h .0) (omega arith) (h .1));
       equal = λ h.
           ⊎-elim
           (λ f.
           elim (decLe c 0x5F) [
-            | yes p ↦ absurd (h (f .from, p))
-            | no p ↦ rw (further c f, ne-eqb (c / 32 % 2) 0 (omega arith))
+            | yes p ↦ absurd (h (f .0, p))
+            | no p ↦ crate-standard c (f .0) (f .1) ∙⁻¹ standard-standard c (f .0) (f .1) (omega arith)
           ])
           (λ o. other c _ _ _ _ o)
-          (which c);
+          (between c);
     }
 
 -- setting the chaining bit does not change the range
@@ -86,12 +96,10 @@ below c k =
       | no p ↦ le-ltb (chained c) (32 * k) (omega arith) ∙⁻¹ le-ltb c (32 * k) (omega arith)
     ]
 
-pub chained-range : (c : ℕ) → rangeOf (chained c) ≡ rangeOf c
+pub chained-range : (c : ℕ) → rangeOf (bitOr c 0x10) ≡ rangeOf c
 unfolding rangeOf
-chained-range c = rw (below c 1, below c 2, below c 4)
+chained-range c = rw (chained-or c, below c 1, below c 2, below c 4)
 
 -- class 'EF' chained is the byte 'FF', which is no class
 pub chained-ef : (r : Class) → as-chained-is (record { cla = 0xEF }) r → (r .cla ≡ 0xFF) × (fromByte (r .cla) ≡ refused 3)
-unfolding fromByte
-chained-ef r e =
-    let b : r .cla ≡ 0xFF = ap (λ (c : Class). c .cla) e in (b, rw b)
+chained-ef r e = let b : r .cla ≡ 0xFF = ap (λ (c : Class). c .cla) e in (b, no-class (r .cla) b)

@@ -18,10 +18,11 @@ furtherOf Standard c = 4 + c % 16
 unfoldable pub channelOf : Reading → ℕ → Option ℕ
 channelOf r c = byRange (rangeOf c) (some (c % 4)) (some (furtherOf r c)) none
 
-abbrev pub said : Channel → Option ℕ
-said (Number n) = some n
-said None = none
+-- an answer as its number, or none
+abbrev pub saidChannel : Channel → Option ℕ
+saidChannel (Number n) = some n
+saidChannel None = none
 
 -- the promise of `channel`
 abbrev pub channel-is : Reading → Class → Channel → Type 0
-channel-is r c x = said x ≡ channelOf r (c .cla)
+channel-is r c x = saidChannel x ≡ channelOf r (c .cla)

@@ -2,7 +2,7 @@
 use Prim.Native.Nat.{ℕ}
 use mathlib.Core.Path.{_≡_}
 use mathlib.Core.Bool.{cond}
-use lib.Dec.{ltb}
+use lib.Dec.{eqb, ltb}
 use Rattle.basis.specs.Reply.{Reply, is, no, then}
 use Rattle.class.specs.Class.{fromByte}
 use Rattle.class.specs.declared.Class.{Class}
@@ -10,40 +10,47 @@ use Rattle.class.specs.declared.range.FromCla.{FromCla}
 use Rattle.class.specs.declared.range.FromCla.the-variants as from-cla
 use Rattle.class.specs.declared.range.Range.{Range}
 use Rattle.class.specs.declared.range.Range.the-variants as range
-use Rattle.class.specs.declared.range.Interindustry.{Interindustry}
 use Rattle.class.specs.declared.range.Interindustry.the-variants.{First, Further, Reserved}
 
--- 000x xxxx first, 001x xxxx reserved, 01xx xxxx further, 1xxx xxxx proprietary
-unfoldable pub rangeOf : ℕ → Range
-rangeOf c =
-    cond (ltb c 0x20) (range.Interindustry First)
-    (cond (ltb c 0x40) (range.Interindustry Reserved) (cond (ltb c 0x80) (range.Interindustry Further) range.Proprietary))
+-- the ranges by number: first and further interindustry, reserved, proprietary
+abbrev pub first : ℕ
+first = 0
 
--- the ranges by number, for hosts
-abbrev pub rangeNumber : Range → ℕ
-rangeNumber (range.Interindustry First) = 0
-rangeNumber (range.Interindustry Further) = 1
-rangeNumber (range.Interindustry Reserved) = 2
-rangeNumber range.Proprietary = 3
+abbrev pub further : ℕ
+further = 1
+
+abbrev pub reserved : ℕ
+reserved = 2
+
+abbrev pub proprietary : ℕ
+proprietary = 3
+
+-- 000x xxxx first, 001x xxxx reserved, 01xx xxxx further, 1xxx xxxx proprietary
+unfoldable pub rangeOf : ℕ → ℕ
+rangeOf c = cond (ltb c 0x20) first (cond (ltb c 0x40) reserved (cond (ltb c 0x80) further proprietary))
 
 -- one of three by the range: first interindustry, further interindustry, any other
-abbrev pub byRange : {A : Type 0} → Range → A → A → A → A
-byRange (range.Interindustry First) a b o = a
-byRange (range.Interindustry Further) a b o = b
-byRange (range.Interindustry Reserved) a b o = o
-byRange range.Proprietary a b o = o
+abbrev pub byRange : {A : Type 0} → ℕ → A → A → A → A
+byRange x a b o = cond (eqb x first) a (cond (eqb x further) b o)
 
 -- the range of a class byte: 3 for FF
-unfoldable pub fromCla : ℕ → Reply Range
+unfoldable pub fromCla : ℕ → Reply ℕ
 fromCla c = then (fromByte c) (λ x. is (rangeOf (x .cla)))
 
-abbrev pub said : FromCla → Reply Range
-said (from-cla.Range x) = is x
-said (from-cla.Refused k) = no k
+-- the answers as these numbers
+abbrev pub saidRange : Range → ℕ
+saidRange (range.Interindustry First) = first
+saidRange (range.Interindustry Further) = further
+saidRange (range.Interindustry Reserved) = reserved
+saidRange range.Proprietary = proprietary
+
+abbrev pub saidCla : FromCla → Reply ℕ
+saidCla (from-cla.Range x) = is (saidRange x)
+saidCla (from-cla.Refused k) = no k
 
 -- the promises of `range` and `from_cla`
 abbrev pub range-is : Class → Range → Type 0
-range-is c r = r ≡ rangeOf (c .cla)
+range-is c r = saidRange r ≡ rangeOf (c .cla)
 
 abbrev pub from-cla-is : ℕ → FromCla → Type 0
-from-cla-is c r = said r ≡ fromCla c
+from-cla-is c r = saidCla r ≡ fromCla c

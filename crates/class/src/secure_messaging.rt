@@ -1,6 +1,6 @@
 // The secure messaging indication.
 ghost use mathlib.Core.Path.{_≡_};
-ghost use Rattle.class.specs.SecureMessaging.{firstOf, furtherOf, secure-messaging-is, none-is};
+ghost use Rattle.class.specs.SecureMessaging.{firstOf, furtherOf, saidSecureMessaging, secure-messaging-is, none-is};
 use crate::Class;
 use crate::Interindustry;
 use crate::Range;
@@ -32,7 +32,7 @@ impl SecureMessaging {
 
 // Of a first interindustry class: bits 4 and 3.
 fn first(cla: u8) -> SecureMessaging
-    ensures { λ r. ⌜ r ≡ firstOf cla ⌝ }
+    ensures { λ r. ⌜ saidSecureMessaging r ≡ firstOf cla ⌝ }
 {
     let bits = cla / 4 % 4;
     match bits {
@@ -45,7 +45,7 @@ fn first(cla: u8) -> SecureMessaging
 
 // Of a further interindustry class.
 fn further(reading: Reading, cla: u8) -> SecureMessaging
-    ensures { λ r. ⌜ r ≡ furtherOf reading cla ⌝ }
+    ensures { λ r. ⌜ saidSecureMessaging r ≡ furtherOf reading cla ⌝ }
 {
     match reading {
         Reading::Crate => SecureMessaging::Standard,

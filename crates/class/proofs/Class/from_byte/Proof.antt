@@ -1,8 +1,8 @@
-use Rattle.basis.proofs.Tests.{tests}
-use Rattle.class.specs.Class.{fromByte}
+use native.Mathlib.Omega.{arith}
+use mathlib.Core.Path.{sym}
+use Rattle.class.proofs.Bytes.{no-class, class-of}
 use Rattle.class.proofs.Class.from_byte.Statement.{statement}
 use Rattle.class.proofs.Class.from_byte.Tie as tie
 
 pub from-byte-spec : {M : Type 1} → statement M
-unfolding fromByte
-from-byte-spec = tie.close (tie.spec (λ c. search tests) (λ c. search tests))
+from-byte-spec = tie.close (tie.spec (λ c. sym (no-class _ (omega arith))) (λ c. sym (class-of _ (omega arith))))

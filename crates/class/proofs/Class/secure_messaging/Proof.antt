@@ -1,5 +1,6 @@
 use borrow.Author.Needs.{needs}
-use mathlib.Core.Path.{sym, _∙_}
+use Rattle.basis.proofs.Reply.{told}
+use Rattle.class.specs.Range.{saidRange}
 use Rattle.class.specs.SecureMessaging.{secureMessagingOf}
 use Rattle.class.proofs.Ranges.{interindustry}
 use Rattle.class.proofs.Class.secure_messaging.Statement.{statement}
@@ -27,7 +28,7 @@ returns-3 c =
 
 returns-4 : tie.Need-returns-4
 unfolding secureMessagingOf
-returns-4 c = rw (sym (c .before .before .range .ensures) ∙ c .enum-told4 .given .1)
+returns-4 c = rw (told saidRange (c .before .before .range .ensures) (c .enum-told4 .given .1))
 
 pub secure-messaging-spec : {M : Type 1} → statement M
 secure-messaging-spec =

@@ -10,7 +10,7 @@ returns c = rw (c .enum-told .given .1) (omega arith)
 
 returns-2 : tie.Need-returns-2
 unfolding furtherOf
-returns-2 c = rw (c .enum-told2 .given .1)
+returns-2 c = rw (c .enum-told2 .given .1) (omega arith)
 
 pub further-spec : {M : Type 1} → statement M
 further-spec =

@@ -1,0 +1,14 @@
+use borrow.Author.Needs.{needs}
+use Rattle.class.proofs.chain.Chain.not_the_last.Statement.{statement}
+use Rattle.class.proofs.chain.Chain.not_the_last.Tie as tie
+
+pub not-the-last-spec : {M : Type 1} → statement M
+not-the-last-spec =
+    tie.close
+    (tie.spec
+    (λ c. search needs)
+    (λ c. search needs)
+    (λ c. search needs)
+    (λ c. rw (c .enum-told .given .1))
+    (λ c. rw (c .enum-told2 .given .1))
+    (λ c. rw (c .enum-told3 .given .1)))
