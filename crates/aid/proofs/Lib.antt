@@ -1,3 +1,4 @@
+pub mod Categories
 pub mod Making
 pub mod Spans
 pub mod Prefix

@@ -1,15 +1,18 @@
--- That a name is a prefix of a list exactly where it is the list's front. Assumes nothing.
+-- That a name is a prefix of a list exactly where it is the list's front, and which names select an AID. Assumes nothing.
 use Prim.Native.Nat.{ℕ, _≤_, _<_}
 use mathlib.Core.Path.{_≡_, refl, ap}
 use mathlib.Core.Bool.{Bool, true, false}
 use mathlib.Core.List.{List, [], _∷_}
 use native.Mathlib.Omega.{arith}
-use borrow.Author.Tests.{eqb-true, eq-eqb}
+use native.Mathlib.Decide.{decLt}
+use borrow.Author.Tests.{eqb-true, eq-eqb, lt-ltb, le-ltb}
 use lib.Dec.{eqb}
 use lib.ListN.{length, take, length-take}
 use lib.Seq.{take-take}
-use Rattle.aid.specs.Matches.{prefix}
 use Rattle.basis.proofs.Truth.{both, same-truth}
+use Rattle.aid.specs.Part.{whole}
+use Rattle.aid.specs.Matches.{prefix, matchesOf}
+use Rattle.aid.specs.declared.Aid.{Aid}
 
 pub prefix-front : (name l : List ℕ) → prefix name l ≡ true → take (length name) l ≡ name
 unfolding prefix
@@ -36,3 +39,22 @@ pub prefix-by : (name l : List ℕ) (n : ℕ) (r : Bool) → length name ≤ n �
 prefix-by name l n r h f g =
     same-truth r (prefix name (take n l)) (λ e. front-prefix name (take n l) (rw take-take (f e)))
     (λ e. g (rw take-take at (prefix-front name (take n l) e)))
+
+-- no name that is too short or too long selects an AID; any other does where it is the front of the bytes
+module _ (a : Aid) (name : List ℕ) where
+  pub too-short : length name < a .truncated → false ≡ matchesOf a name
+  unfolding matchesOf
+  too-short h = rw (lt-ltb (length name) (a .truncated) h)
+
+  pub too-long : length (whole a) < length name → false ≡ matchesOf a name
+  unfolding matchesOf
+  too-long h =
+      elim (decLt (length name) (a .truncated)) [
+        | yes g ↦ too-short g
+        | no g ↦ rw (le-ltb (length name) (a .truncated) (omega arith)) (no-prefix name (whole a) h)
+      ]
+
+  pub by-front : a .truncated ≤ length name → length name ≤ a .len → (r : Bool) → (r ≡ true → take (length name) (a .bytes) ≡ name)
+      → (take (length name) (a .bytes) ≡ name → r ≡ true) → r ≡ matchesOf a name
+  unfolding matchesOf
+  by-front h g r f b = rw (le-ltb (length name) (a .truncated) h) (prefix-by name (a .bytes) (a .len) r g f b)

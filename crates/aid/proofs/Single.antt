@@ -1,11 +1,12 @@
 -- One reply: any two replies, and buffers at exit, that an operation's contract allows are equal. Assumes nothing.
-use Prim.Native.Nat.{ℕ}
+use Prim.Native.Nat.{ℕ, zero, suc}
 use mathlib.Core.Path.{_≡_, refl, _∙⁻¹_}
 use mathlib.Core.Bool.{Bool}
 use mathlib.Core.List.{List}
 use Rattle.basis.specs.Reply.{is, then}
+use Rattle.basis.proofs.Reply.{apart}
 use Rattle.aid.specs.Making.{said, try-new-is, try-new-truncatable-is}
-use Rattle.aid.specs.Category.{category-is, is-in-is}
+use Rattle.aid.specs.Category.{international, national, standard, proprietary, saidCategory, category-is, is-in-is}
 use Rattle.aid.specs.Part.{saidLength, saidCopied, part-len-is, copy-part-is}
 use Rattle.aid.specs.Matches.{matches-is}
 use Rattle.aid.specs.declared.Aid.{Aid}
@@ -13,7 +14,7 @@ use Rattle.aid.specs.declared.Answer.{Answer}
 use Rattle.aid.specs.declared.Answer.the-variants as answer
 use Rattle.aid.specs.declared.TryNew.{TryNew}
 use Rattle.aid.specs.declared.category.Category.{Category}
-use Rattle.aid.specs.declared.category.Category.the-variants.{International, National, Standard, Proprietary}
+use Rattle.aid.specs.declared.category.Category.the-variants as categories
 use Rattle.aid.specs.declared.part.Part.{Part}
 use Rattle.aid.specs.declared.part.Length.{Length}
 use Rattle.aid.specs.declared.part.Length.the-variants as len
@@ -26,6 +27,21 @@ answer-said answer.Made answer.Made x y e = refl
 answer-said answer.Made (answer.Refused k) x y e = cc
 answer-said (answer.Refused k) answer.Made x y e = cc
 answer-said (answer.Refused k) (answer.Refused j) x y e = cc
+
+-- the category that a number tells of
+abbrev category-back : ℕ → Category
+category-back zero = categories.International
+category-back (suc zero) = categories.National
+category-back (suc (suc zero)) = categories.Standard
+category-back (suc (suc (suc zero))) = categories.Proprietary
+category-back (suc (suc (suc (suc n)))) = categories.Other
+
+category-known : (x : Category) → category-back (saidCategory x) ≡ x
+category-known categories.International = refl
+category-known categories.National = refl
+category-known categories.Standard = refl
+category-known categories.Proprietary = refl
+category-known categories.Other = refl
 
 length-said : (a b : Length) → saidLength a ≡ saidLength b → a ≡ b
 length-said (len.Bytes n) (len.Bytes m) e = cc
@@ -55,22 +71,22 @@ pub try-new : (name : List ℕ) (r s : TryNew) → try-new-is name r → try-new
 try-new name r s p q = try-new-truncatable _ _ r s p q
 
 pub category : (a : Aid) (r s : Category) → category-is a r → category-is a s → r ≡ s
-category a r s p q = p ∙⁻¹ q
+category a r s p q = apart saidCategory category-back category-known r s (p ∙⁻¹ q)
 
-is-in : (k : Category) (a : Aid) (r s : Bool) → is-in-is k a r → is-in-is k a s → r ≡ s
+is-in : (k : ℕ) (a : Aid) (r s : Bool) → is-in-is k a r → is-in-is k a s → r ≡ s
 is-in k a r s p q = p ∙⁻¹ q
 
-pub is-international : (a : Aid) (r s : Bool) → is-in-is International a r → is-in-is International a s → r ≡ s
-is-international = is-in International
+pub is-international : (a : Aid) (r s : Bool) → is-in-is international a r → is-in-is international a s → r ≡ s
+is-international = is-in international
 
-pub is-national : (a : Aid) (r s : Bool) → is-in-is National a r → is-in-is National a s → r ≡ s
-is-national = is-in National
+pub is-national : (a : Aid) (r s : Bool) → is-in-is national a r → is-in-is national a s → r ≡ s
+is-national = is-in national
 
-pub is-standard : (a : Aid) (r s : Bool) → is-in-is Standard a r → is-in-is Standard a s → r ≡ s
-is-standard = is-in Standard
+pub is-standard : (a : Aid) (r s : Bool) → is-in-is standard a r → is-in-is standard a s → r ≡ s
+is-standard = is-in standard
 
-pub is-proprietary : (a : Aid) (r s : Bool) → is-in-is Proprietary a r → is-in-is Proprietary a s → r ≡ s
-is-proprietary = is-in Proprietary
+pub is-proprietary : (a : Aid) (r s : Bool) → is-in-is proprietary a r → is-in-is proprietary a s → r ≡ s
+is-proprietary = is-in proprietary
 
 pub part-len : (p : Part) (a : Aid) (r s : Length) → part-len-is p a r → part-len-is p a s → r ≡ s
 part-len p a r s x y = length-said r s (x ∙⁻¹ y)

@@ -7,13 +7,14 @@ use native.Mathlib.Omega.{arith}
 use borrow.Author.Tests.{leb-true, lt-ltb, le-ltb}
 use lib.Dec.{leb}
 use lib.ListN.{length, take, drop, length-take, length-drop}
-use lib.Seq.{length-take-le}
+use lib.Seq.{take-take, length-take-le}
 use Rattle.basis.specs.Part.{over}
 use Rattle.basis.proofs.Truth.{both}
 use Rattle.aid.specs.Category.{category}
-use Rattle.aid.specs.Part.{whole, registered, hasRid, part-len-is, copy-part-is, Spans}
+use Rattle.aid.specs.Part.{whole, registered, hasRid, partOf, part-len-is, copy-part-is, Spans}
 use Rattle.aid.specs.declared.Aid.{Aid}
 use Rattle.aid.specs.declared.part.Part.{Part}
+use Rattle.aid.specs.declared.part.Part.the-variants.{Rid}
 use Rattle.aid.specs.declared.part.Span.{Span}
 use Rattle.aid.specs.declared.part.Span.the-variants.{Of}
 use Rattle.aid.specs.declared.part.Length.the-variants as len
@@ -27,6 +28,13 @@ up-to a n h e = rw (length-take, h) e
 pub rid-long : (a : Aid) → hasRid a ≡ true → 5 ≤ length (whole a)
 unfolding hasRid
 rid-long a e = leb-true 5 _ (both (registered (category a)) (leb 5 (length (whole a))) e .1)
+
+-- and the RID is the first five of them
+pub rid-at : (a : Aid) (e : ℕ) → hasRid a ≡ true → e ≡ 5 → Spans Rid a (Of 0 e)
+unfolding partOf
+rid-at a e h five =
+    let n : 5 ≤ a .len = omega (arith, rid-long a h, length-take (a .len) (a .bytes)) in
+    record { shows = rw (five, h, take-take); inside = omega arith }
 
 abbrev between : List ℕ → ℕ → ℕ → List ℕ
 between l s e = take (e - s) (drop s l)
@@ -47,8 +55,8 @@ module _ {p : Part} {a : Aid} {r : Span} {s e : ℕ} (h : length (a .bytes) ≡ 
   pub measured : part-len-is p a (len.Bytes (e - s))
   measured = rw (← at .shows, size)
 
-  pub too-small : (to : List ℕ) → length to < e - s → copy-part-is p a to (copied.Refused 16) to
-  too-small to g = record { reply = rw (← at .shows, size, lt-ltb); buffer = rw (← at .shows, size, lt-ltb) }
+  pub too-small : (to : List ℕ) (k : ℕ) → k ≡ 16 → length to < e - s → copy-part-is p a to (copied.Refused k) to
+  too-small to k ek g = record { reply = rw (← at .shows, size, lt-ltb, ek); buffer = rw (← at .shows, size, lt-ltb) }
 
   pub done : (to after : List ℕ) (n : ℕ) → e - s ≤ length to → n ≡ length (between (a .bytes) s e)
       → after ≡ over (between (a .bytes) s e) to → copy-part-is p a to (copied.Bytes n) after

@@ -1,25 +1,24 @@
--- That an AID by value stays whole: what is made is made of a name, and has what the Rust takes for granted. Assumes nothing.
-use Prim.Native.Nat.{ℕ, zero, suc, _-_}
-use mathlib.Core.Path.{_≡_, refl, sym, _∙_}
-use mathlib.Core.Bool.{false, true≢false}
-use mathlib.Core.List.{List, [], _∷_}
+-- That an AID by value stays whole: what is made is made of a name, and the AIDs that are made of a name are exactly those that have what
+-- the Rust takes for granted. Assumes nothing.
+use Prim.Native.Nat.{ℕ, zero, suc, _-_, _/_}
+use mathlib.Core.Path.{_≡_, refl, ap, _∙_}
+use mathlib.Core.Logic.{inl, inr, ⊎-elim}
+use mathlib.Core.List.{List, [], _∷_, _++_}
 use native.Mathlib.Omega.{arith}
 use native.Mathlib.Decide.{decLe}
 use native.Mathlib.Nat.{sub-zero, zero-sub, suc-sub-suc}
-use lib.ListN.{length, getD, drop, replicate, List·getD-append}
-use lib.Seq.{take-append-seam, drop-append-seam}
+use lib.ListN.{length, getD, take, drop, replicate, take-append-drop, List·getD-append}
+use lib.Seq.{take-append-seam, drop-append-seam, length-take-le, getD-take}
 use Rattle.basis.specs.Reply.{Reply, is, no as refused, then}
 use Rattle.basis.specs.Part.{over}
 use Rattle.basis.proofs.Part.{length-over}
 use Rattle.basis.proofs.Reply.{no-is}
 use Rattle.aid.specs.Category.{categoryOf}
-use Rattle.aid.specs.Part.{whole, registered}
-use Rattle.aid.specs.Making.{noRid, underFive, tested, holding, tryNew, orBlank, try-new-truncatable-is, Held, Whole}
+use Rattle.aid.specs.Part.{whole}
+use Rattle.aid.specs.Making.{underFive, tested, holding, tryNew, orBlank, try-new-truncatable-is, Held, Whole}
 use Rattle.aid.specs.declared.Aid.{Aid}
 use Rattle.aid.specs.declared.TryNew.{TryNew}
-use Rattle.aid.specs.declared.category.Category.{Category}
-use Rattle.aid.specs.declared.category.Category.the-variants.{International, National, Standard, Proprietary, Other}
-use Rattle.aid.proofs.Making.{Passed, passed}
+use Rattle.aid.proofs.Making.{Passed, passed, passes}
 
 or-blank : (name : List ℕ) (t : ℕ) (x : Reply Aid) → tryNew name t ≡ x → Held (orBlank x)
 unfolding tryNew tested underFive categoryOf
@@ -30,17 +29,18 @@ or-blank name t (refused k) e = (0 ∷ [], (1, refl))
 pub held : (name : List ℕ) (t : ℕ) (r : TryNew) → try-new-truncatable-is name t r → Held (r .aid)
 held name t r h = rw (h .held) (or-blank name t (tryNew name t) refl)
 
--- what passes with under five bytes is neither national nor international
-short : (k : Category) → noRid k ≡ is tt → registered k ≡ false
-short International e = cc
-short National e = cc
-short Standard e = refl
-short Proprietary e = refl
-short Other e = refl
-
 made : (x : Reply (Unit {0})) (a b : Aid) → then x (λ u. is a) ≡ is b → (x ≡ is tt) × (a ≡ b)
 made (is tt) a b e = (refl, cc)
 made (refused k) a b e = absurd (no-is k b e)
+
+-- exactly the names that pass make an AID, and it is this one
+pub made-of : (name : List ℕ) (t : ℕ) (a : Aid) → tryNew name t ≡ is a → Passed name t × (holding name t ≡ a)
+unfolding tryNew
+made-of name t a e = let m = made (tested name t) (holding name t) a e in (passed name t (m .0), m .1)
+
+pub makes : (name : List ℕ) (t : ℕ) → Passed name t → tryNew name t ≡ is (holding name t)
+unfolding tryNew
+makes name t h = rw (passes name t h)
 
 -- what is left of equal elements
 drop-replicate : (n m a : ℕ) → drop n (replicate m a) ≡ replicate (m - n) a
@@ -49,7 +49,7 @@ drop-replicate (suc n) zero a = rw zero-sub
 drop-replicate (suc n) (suc m) a = rw suc-sub-suc (drop-replicate n m a)
 
 holding-whole : (name : List ℕ) (t : ℕ) → Passed name t → Whole (holding name t)
-unfolding over underFive
+unfolding over
 holding-whole name t h =
     let first : getD (over name (replicate 16 0)) 0 0 ≡ getD name 0 0 = List·getD-append name _ 0 0 (h .some) in
     record {
@@ -60,13 +60,9 @@ holding-whole name t h =
       cut = h .cut;
       rid = λ e. elim (decLe 5 (length name)) [
         | yes g ↦ g
-        | no g ↦ absurd (true≢false (sym (rw first at e) ∙ short (categoryOf (getD name 0 0)) (h .rid (omega arith))))
+        | no g ↦ absurd (⊎-elim (h .international (omega arith)) (h .national (omega arith)) (rw first at e))
       ];
     }
-
-made-of : (name : List ℕ) (t : ℕ) (a : Aid) → tryNew name t ≡ is a → Passed name t × (holding name t ≡ a)
-unfolding tryNew
-made-of name t a e = let m = made (tested name t) (holding name t) a e in (passed name t (m .0), m .1)
 
 -- an AID's bytes are the name that it was made of
 pub kept : (name : List ℕ) (t : ℕ) (a : Aid) → tryNew name t ≡ is a → whole a ≡ name
@@ -75,3 +71,30 @@ kept name t a e = rw (← made-of name t a e .1) (take-append-seam name _)
 
 pub is-whole : (a : Aid) → Held a → Whole a
 is-whole a h = let m = made-of (h .0) (h .1 .0) a (h .1 .1) in rw (← m .1) (holding-whole (h .0) (h .1 .0) (m .0))
+
+-- and an AID that is whole is made of its bytes
+module _ (a : Aid) (w : Whole a) where
+  name-length : length (whole a) ≡ a .len
+  name-length = length-take-le (a .len) (a .bytes) (omega arith)
+
+  name-passes : Passed (whole a) (a .truncated)
+  name-passes =
+      let n = name-length in
+      let first : getD (whole a) 0 0 ≡ getD (a .bytes) 0 0 = getD-take (a .len) (a .bytes) 0 0 (w .least) in
+      record {
+        some = omega (arith, n);
+        most = omega (arith, n);
+        cut = omega (arith, n);
+        international = λ g h. omega (arith, n, w .rid (inl (rw first at h)));
+        national = λ g h. omega (arith, n, w .rid (inr (rw first at h)));
+      }
+
+  name-held : holding (whole a) (a .truncated) ≡ a
+  unfolding over
+  name-held =
+      let n = name-length in
+      let b : over (whole a) (replicate 16 0) ≡ a .bytes = rw (n, drop-replicate, ← w .zeros) (take-append-drop (a .len) (a .bytes)) in
+      λ i. record { bytes = b i; len = n i; truncated = a .truncated }
+
+  pub whole-held : Held a
+  whole-held = (whole a, (a .truncated, makes (whole a) (a .truncated) name-passes ∙ ap is name-held))

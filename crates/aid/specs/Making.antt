@@ -1,32 +1,22 @@
 -- Making an AID of a name. Document 01, "Numbers of refusal" (6 to 10) and "Class and AID".
-use Prim.Native.Nat.{ℕ, _-_, _≤_}
+use Prim.Native.Nat.{ℕ, _-_, _/_, _≤_}
 use mathlib.Core.Path.{_≡_}
-use mathlib.Core.Bool.{true, cond}
+use mathlib.Core.Bool.{cond}
+use mathlib.Core.Logic.{_⊎_}
 use mathlib.Core.List.{List, [], _∷_}
 use lib.Dec.{eqb, ltb}
 use lib.ListN.{length, getD, drop, replicate}
 use Rattle.basis.specs.Reply.{Reply, is, no, then}
 use Rattle.basis.specs.Part.{over}
-use Rattle.aid.specs.Category.{categoryOf, category}
-use Rattle.aid.specs.Part.{registered}
+use Rattle.aid.specs.Category.{international, national, categoryOf}
 use Rattle.aid.specs.declared.Aid.{Aid}
 use Rattle.aid.specs.declared.Answer.{Answer}
 use Rattle.aid.specs.declared.Answer.the-variants.{Made, Refused}
 use Rattle.aid.specs.declared.TryNew.{TryNew}
-use Rattle.aid.specs.declared.category.Category.{Category}
-use Rattle.aid.specs.declared.category.Category.the-variants.{International, National, Standard, Proprietary, Other}
 
--- a name of under five bytes: 9 for a national one, 10 for an international one
-abbrev pub noRid : Category → Reply (Unit {0})
-noRid National = no 9
-noRid International = no 10
-noRid Standard = is tt
-noRid Proprietary = is tt
-noRid Other = is tt
-
--- for a name under five bytes, by its first byte
+-- a name of under five bytes, by its first byte: 9 for a national one, 10 for an international one
 unfoldable pub underFive : ℕ → Reply (Unit {0})
-underFive b = noRid (categoryOf b)
+underFive b = cond (eqb (categoryOf b) national) (no 9) (cond (eqb (categoryOf b) international) (no 10) (is tt))
 
 -- the tests of a name and its truncated length, in order
 unfoldable pub tested : List ℕ → ℕ → Reply (Unit {0})
@@ -67,11 +57,11 @@ try-new-is name r = try-new-truncatable-is name (length name) r
 abbrev pub Held : Aid → Type 0
 Held a = (name : List ℕ) × ((t : ℕ) × (tryNew name t ≡ is a))
 
--- what the Rust takes for granted of an AID
+-- what the Rust takes for granted of an AID: an international or national one has at least the five bytes of its RID
 pub record Whole (a : Aid) : Type 0 where
   pub array : length (a .bytes) ≡ 16
   pub least : 1 ≤ a .len
   pub most : a .len ≤ 16
   pub zeros : drop (a .len) (a .bytes) ≡ replicate (16 - a .len) 0
   pub cut : a .truncated ≤ a .len
-  pub rid : registered (category a) ≡ true → 5 ≤ a .len
+  pub rid : (getD (a .bytes) 0 0 / 16 ≡ 0xA) ⊎ (getD (a .bytes) 0 0 / 16 ≡ 0xD) → 5 ≤ a .len

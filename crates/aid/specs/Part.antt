@@ -4,14 +4,12 @@ use mathlib.Core.Path.{_≡_}
 use mathlib.Core.Bool.{Bool, true, false, cond}
 use mathlib.Core.List.{List}
 use mathlib.Core.Option.{Option, none, some}
-use lib.Dec.{leb, ltb}
+use lib.Dec.{eqb, leb, ltb}
 use lib.ListN.{length, take, drop}
 use Rattle.basis.specs.Reply.{Reply, is, no}
 use Rattle.basis.specs.Part.{over}
-use Rattle.aid.specs.Category.{category}
+use Rattle.aid.specs.Category.{international, national, category}
 use Rattle.aid.specs.declared.Aid.{Aid}
-use Rattle.aid.specs.declared.category.Category.{Category}
-use Rattle.aid.specs.declared.category.Category.the-variants.{International, National, Standard, Proprietary, Other}
 use Rattle.aid.specs.declared.part.Part.{Part}
 use Rattle.aid.specs.declared.part.Part.the-variants as part
 use Rattle.aid.specs.declared.part.Span.{Span}
@@ -25,13 +23,9 @@ use Rattle.aid.specs.declared.part.Copied.the-variants as copied
 abbrev pub whole : Aid → List ℕ
 whole a = take (a .len) (a .bytes)
 
--- the categories that have a registered provider
-abbrev pub registered : Category → Bool
-registered International = true
-registered National = true
-registered Standard = false
-registered Proprietary = false
-registered Other = false
+-- the categories that have a registered provider: international and national
+abbrev pub registered : ℕ → Bool
+registered k = cond (eqb k international) true (eqb k national)
 
 -- only a national or international AID of at least five bytes has a RID and a PIX
 unfoldable pub hasRid : Aid → Bool

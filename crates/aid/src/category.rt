@@ -1,7 +1,6 @@
 // The category of an AID, by the high half of its first byte.
 ghost use mathlib.Core.Path.{_≡_};
-ghost use Rattle.aid.specs.Category.{categoryOf, numberOf, category-is, is-in-is};
-ghost use Rattle.aid.specs.declared.category.Category.the-variants.{International, National, Standard, Proprietary};
+ghost use Rattle.aid.specs.Category.{international, national, standard, proprietary, categoryOf, saidCategory, category-is, is-in-is};
 use crate::Aid;
 
 // The category of an AID, by the high half of its first byte.
@@ -15,7 +14,7 @@ pub enum Category {
 
 // Of a name that starts with this byte.
 pub(crate) fn of(first: u8) -> Category
-    ensures { λ r. ⌜ r ≡ categoryOf first ⌝ }
+    ensures { λ r. ⌜ saidCategory r ≡ categoryOf first ⌝ }
 {
     let high = first / 16;
     match high {
@@ -29,7 +28,7 @@ pub(crate) fn of(first: u8) -> Category
 
 // The categories by number, to compare two.
 fn number(k: Category) -> u8
-    ensures { λ r. ⌜ r ≡ numberOf k ⌝ }
+    ensures { λ r. ⌜ r ≡ saidCategory k ⌝ }
 {
     match k {
         Category::International => 0,
@@ -51,32 +50,32 @@ impl Aid {
 
     // Whether this is its category.
     fn is_in(self, k: Category) -> bool
-        ensures { λ r. ⌜ is-in-is k self r ⌝ }
+        ensures { λ r. ⌜ is-in-is (saidCategory k) self r ⌝ }
     {
         number(self.category()) == number(k)
     }
 
     // One test for each category but the last.
     pub fn is_international(self) -> bool
-        ensures { λ r. ⌜ is-in-is International self r ⌝ }
+        ensures { λ r. ⌜ is-in-is international self r ⌝ }
     {
         self.is_in(Category::International)
     }
 
     pub fn is_national(self) -> bool
-        ensures { λ r. ⌜ is-in-is National self r ⌝ }
+        ensures { λ r. ⌜ is-in-is national self r ⌝ }
     {
         self.is_in(Category::National)
     }
 
     pub fn is_standard(self) -> bool
-        ensures { λ r. ⌜ is-in-is Standard self r ⌝ }
+        ensures { λ r. ⌜ is-in-is standard self r ⌝ }
     {
         self.is_in(Category::Standard)
     }
 
     pub fn is_proprietary(self) -> bool
-        ensures { λ r. ⌜ is-in-is Proprietary self r ⌝ }
+        ensures { λ r. ⌜ is-in-is proprietary self r ⌝ }
     {
         self.is_in(Category::Proprietary)
     }

@@ -8,7 +8,8 @@ use Rattle.aid.proofs.Aid.copy_part.Tie as tie
 
 returns : tie.Need-returns
 returns c =
-    too-small (search needs) (c .before .before .before .before .span-of .ensures) (c .before .before .start .given .1) _ (c .if1 .taken)
+    too-small (search needs) (c .before .before .before .before .span-of .ensures) (c .before .before .start .given .1) _ _ (omega arith)
+    (c .if1 .taken)
 
 sub-copy : tie.Need-sub-copy
 sub-copy c =

@@ -1,28 +1,26 @@
 use borrow.Author.Needs.{needs}
-use mathlib.Core.Path.{sym, ap, _∙_}
+use native.Mathlib.Omega.{arith}
+use mathlib.Core.Path.{_∙_}
 use Rattle.basis.specs.Part.{over}
-use Rattle.aid.specs.Making.{tryNew, said}
 use Rattle.basis.proofs.Part.{copied}
-use Rattle.aid.proofs.Making.{passed}
+use Rattle.basis.proofs.Reply.{told}
+use Rattle.aid.specs.Making.{said}
+use Rattle.aid.proofs.Making.{passed, made, not-made}
 use Rattle.aid.proofs.Aid.try_new_truncatable.Statement.{statement}
 use Rattle.aid.proofs.Aid.try_new_truncatable.Tie as tie
 
 copy-requires : tie.Need-copy-requires
-copy-requires c κs =
-    passed _ _ (sym (c .before .before .before .test .ensures) ∙ ap said (c .before .enum-told .given .1)) .most
+copy-requires c κs = passed _ _ (told said (c .before .before .before .test .ensures) (c .before .enum-told .given .1)) .most
 
 returns : tie.Need-returns
-unfolding tryNew over
-returns c =
-    let e = sym (c .before .before .before .test .ensures) ∙ ap said (c .before .k .given .1) in
-    record { answered = rw e; held = rw e }
+unfolding over
+returns c = not-made _ _ _ _ (told said (c .before .before .before .test .ensures) (c .before .k .given .1)) (omega arith)
 
 returns-2 : tie.Need-returns-2
-unfolding tryNew
 returns-2 c =
-    let e = sym (c .before .before .before .before .before .test .ensures) ∙ ap said (c .before .before .before .enum-told .given .1) in
     let copy = c .before .copy .ensures in
-    record { answered = rw (e, copy .0, copy .1, copied); held = rw (e, copy .0, copy .1, copied) }
+    made _ _ (told said (c .before .before .before .before .before .test .ensures) (c .before .before .before .enum-told .given .1)) _ _ _
+    (copy .1 ∙ copied _ _) (copy .0) (omega arith)
 
 pub try-new-truncatable-spec : {M : Type 1} → statement M
 try-new-truncatable-spec =

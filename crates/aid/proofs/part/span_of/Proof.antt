@@ -1,13 +1,11 @@
-use Prim.Native.Nat.{_≤_}
 use borrow.Author.Needs.{needs}
 use native.Mathlib.Omega.{arith}
 use mathlib.Core.Path.{_≡_, sym, ap, _∙_}
 use mathlib.Core.Option.{some}
 use lib.ListN.{length, length-take}
-use lib.Seq.{take-take}
 use Rattle.aid.specs.Part.{partOf}
 use Rattle.basis.proofs.Part.{part-is}
-use Rattle.aid.proofs.Spans.{rid-long}
+use Rattle.aid.proofs.Spans.{rid-long, rid-at}
 use Rattle.aid.proofs.part.span_of.Statement.{statement}
 use Rattle.aid.proofs.part.span_of.Tie as tie
 
@@ -30,12 +28,8 @@ returns-2 c =
     }
 
 returns-3 : tie.Need-returns-3
-unfolding partOf
 returns-3 c =
-    let a = c .before .before .before .before .before .args .aid in
-    let rid = sym (c .before .has-rid .ensures) ∙ c .if1 .taken in
-    let n : 5 ≤ a .len = omega (arith, rid-long a rid, length-take (a .len) (a .bytes)) in
-    record { shows = rw (c .before .before .enum-told3 .given .1, rid, take-take); inside = (omega arith, omega arith) }
+    rw (c .before .before .enum-told3 .given .1) (rid-at _ _ (sym (c .before .has-rid .ensures) ∙ c .if1 .taken) (omega arith))
 
 returns-4 : tie.Need-returns-4
 unfolding partOf
