@@ -7,13 +7,12 @@ use mathlib.Core.Option.{Option}
 use lib.Dec.{eqb, ltb}
 use lib.ListN.{length}
 use Rattle.basis.specs.Reply.{Reply, is, no, then, status}
-use Rattle.aid.specs.Category.{category, numberOf, isIn}
+use Rattle.aid.specs.Category.{international, national, standard, proprietary, category, isIn}
 use Rattle.aid.specs.Making.{tryNew, said}
 use Rattle.aid.specs.Part.{partOf, lengthOf, copyOf, copyTo}
 use Rattle.aid.specs.Matches.{matchesOf}
 use Rattle.aid.specs.declared.Aid.{Aid}
 use Rattle.aid.specs.declared.TryNew.{TryNew}
-use Rattle.aid.specs.declared.category.Category.the-variants.{International, National, Standard, Proprietary}
 use Rattle.aid.specs.declared.part.Part.{Part}
 use Rattle.aid.specs.declared.part.Part.the-variants as part
 use Rattle.tell.specs.Answers.{flagOf, orNone, fitting, outAfter}
@@ -31,11 +30,11 @@ unfoldable pub numbersOf : Aid → List ℕ
 numbersOf a =
     sizeOf part.Bytes a
     ∷ sizeOf part.Truncated a
-    ∷ numberOf (category a)
-    ∷ flagOf (isIn International a)
-    ∷ flagOf (isIn National a)
-    ∷ flagOf (isIn Standard a)
-    ∷ flagOf (isIn Proprietary a)
+    ∷ category a
+    ∷ flagOf (isIn international a)
+    ∷ flagOf (isIn national a)
+    ∷ flagOf (isIn standard a)
+    ∷ flagOf (isIn proprietary a)
     ∷ sizeOf part.Rid a
     ∷ sizeOf part.Pix a
     ∷ []

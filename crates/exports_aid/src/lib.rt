@@ -1,7 +1,7 @@
 // What a host program calls of the crate `aid`: every operation, of the AID that a name and a truncated length make, as numbers.
 // Each function replies 0, or the number of a refusal of document 01.
 ghost use mathlib.Core.Path.{_≡_};
-ghost use Rattle.aid.specs.Category.{numberOf};
+ghost use Rattle.aid.specs.Category.{saidCategory};
 ghost use Rattle.aid.specs.Making.{tryNew};
 ghost use Rattle.aid.specs.Part.{saidLength};
 ghost use Rattle.basis.specs.Reply.{is};
@@ -19,7 +19,7 @@ use tell::refuse;
 use tell::tell;
 
 fn category_number(category: Category) -> u64
-    ensures { λ r. ⌜ r ≡ numberOf category ⌝ }
+    ensures { λ r. ⌜ r ≡ saidCategory category ⌝ }
 {
     match category {
         Category::International => 0,

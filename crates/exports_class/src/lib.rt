@@ -1,10 +1,10 @@
 // What a host program calls of the crate `class`: every operation, as numbers. Each function replies 0, or the number of a
 // refusal of document 01.
 ghost use mathlib.Core.Path.{_≡_};
-ghost use Rattle.class.specs.Channel.{said};
-ghost use Rattle.class.specs.Chain.{chainNumber};
-ghost use Rattle.class.specs.Range.{rangeNumber};
-ghost use Rattle.class.specs.SecureMessaging.{indicationNumber};
+ghost use Rattle.class.specs.Channel.{saidChannel};
+ghost use Rattle.class.specs.Chain.{saidChain};
+ghost use Rattle.class.specs.Range.{saidRange};
+ghost use Rattle.class.specs.SecureMessaging.{saidSecureMessaging};
 ghost use Rattle.tell.specs.Answers.{Answers, orNone};
 ghost use Rattle.exports_class.specs.Numbers.{toldOf, numbersOf, ofClass, ofChained, ofRange, constants};
 use class::Chain;
@@ -21,7 +21,7 @@ use tell::refuse;
 use tell::tell;
 
 fn range_number(range: Range) -> u64
-    ensures { λ r. ⌜ r ≡ rangeNumber range ⌝ }
+    ensures { λ r. ⌜ r ≡ saidRange range ⌝ }
 {
     match range {
         Range::Interindustry(which) => match which {
@@ -34,7 +34,7 @@ fn range_number(range: Range) -> u64
 }
 
 fn indication_number(indication: SecureMessaging) -> u64
-    ensures { λ r. ⌜ r ≡ indicationNumber indication ⌝ }
+    ensures { λ r. ⌜ r ≡ saidSecureMessaging indication ⌝ }
 {
     match indication {
         SecureMessaging::None => 0,
@@ -46,7 +46,7 @@ fn indication_number(indication: SecureMessaging) -> u64
 }
 
 fn chain_number(chain: Chain) -> u64
-    ensures { λ r. ⌜ r ≡ chainNumber chain ⌝ }
+    ensures { λ r. ⌜ r ≡ saidChain chain ⌝ }
 {
     match chain {
         Chain::LastOrOnly => 0,
@@ -56,7 +56,7 @@ fn chain_number(chain: Chain) -> u64
 }
 
 fn channel_number(channel: Channel) -> u64
-    ensures { λ r. ⌜ r ≡ orNone (said channel) ⌝ }
+    ensures { λ r. ⌜ r ≡ orNone (saidChannel channel) ⌝ }
 {
     match channel {
         Channel::Number(n) => n as u64,
@@ -95,7 +95,8 @@ fn told(
     of_crate: Channel,
     of_standard: Channel,
 ) -> [u64; 11]
-    ensures { λ r. ⌜ r ≡ toldOf cla range «by_crate» «by_standard» chain (said «of_crate») (said «of_standard») ⌝ }
+    ensures { λ r. ⌜ r ≡ toldOf cla (saidRange range) (saidSecureMessaging «by_crate») (saidSecureMessaging «by_standard») (saidChain chain)
+        (saidChannel «of_crate») (saidChannel «of_standard») ⌝ }
 {
     [
         cla as u64,

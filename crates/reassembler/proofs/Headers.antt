@@ -1,13 +1,13 @@
 -- Whether a piece continues a chain, and whether it is the last. Assumes nothing.
-use mathlib.Core.Path.{_≡_, refl, sym, ap, _∙_}
-use mathlib.Core.Bool.{Bool, true, false, cond}
+use mathlib.Core.Path.{_≡_, sym, _∙_}
+use mathlib.Core.Bool.{Bool, true, false}
 use borrow.Author.Tests.{eq-eqb, ne-eqb, eqb-true}
 use lib.Dec.{eqb}
 use Rattle.basis.proofs.Truth.{both}
-use Rattle.class.specs.Chain.{bit, chained, chainingOf, notTheLast}
+use Rattle.class.specs.Chain.{bit, chained, chain-is, not-the-last-is}
 use Rattle.class.specs.declared.Class.{Class}
 use Rattle.class.specs.declared.chain.Chain.{Chain}
-use Rattle.class.specs.declared.chain.Chain.the-variants.{LastOrOnly, NotTheLast}
+use Rattle.class.proofs.Bits.{not-the-last-bit}
 use Rattle.command.specs.declared.CommandView.{CommandView}
 use Rattle.reassembler.specs.Join.{sameClass, continuesOpen, SameHeader}
 use Rattle.reassembler.specs.declared.Held.{Held}
@@ -67,11 +67,6 @@ continues-same h v e =
 pub same-continues : (h : Held) (v : CommandView) → SameHeader h v → continuesOpen h v ≡ true
 same-continues h v s = continues-is h v (same-class-is (h .class) (v .class) (s .class)) (s .instruction) (s .p1) (s .p2)
 
--- the chaining bit, from what the class says of it
-told : (x : Bool) → notTheLast (cond x NotTheLast LastOrOnly) ≡ x
-told true = refl
-told false = refl
-
-pub bit-is : (c : Class) (x : Chain) (y z : Bool) → x ≡ chainingOf (c .cla) → y ≡ notTheLast x → y ≡ z → eqb (bit (c .cla)) 1 ≡ z
-unfolding chainingOf
-bit-is c x y z e f g = sym (told (eqb (bit (c .cla)) 1)) ∙ ap notTheLast (sym e) ∙ sym f ∙ g
+-- whether the chaining bit is set, from what the class says of it
+pub bit-is : (c : Class) (x : Chain) (y z : Bool) → chain-is c x → not-the-last-is x y → y ≡ z → eqb (bit (c .cla)) 1 ≡ z
+bit-is c x y z e f g = sym (not-the-last-bit c x y e f) ∙ g

@@ -1,7 +1,7 @@
 use borrow.Author.Needs.{needs}
-use mathlib.Core.Path.{sym, ap, _∙_}
+use Rattle.basis.proofs.Reply.{told}
 use Rattle.tell.proofs.Answers.{answers-no}
-use Rattle.class.specs.Range.{said}
+use Rattle.class.specs.Range.{saidCla}
 use Rattle.exports_class.specs.Numbers.{ofRange}
 use Rattle.exports_class.proofs.gorvisclen_range.Statement.{statement}
 use Rattle.exports_class.proofs.gorvisclen_range.Tie as tie
@@ -10,14 +10,14 @@ returns : tie.Need-returns
 unfolding ofRange
 returns c =
     let k = c .before .before in
-    rw (sym (k .before .before .from-cla .ensures) ∙ ap said (k .k .given .1)) (answers-no _ _ _ _ (c .refuse .ensures))
+    rw (told saidCla (k .before .before .from-cla .ensures) (k .k .given .1)) (answers-no _ _ _ _ (c .refuse .ensures))
 
 returns-2 : tie.Need-returns-2
 unfolding ofRange
 returns-2 c =
     let t = c .before .before in
     let m = t .before .before .before in
-    rw (sym (m .before .before .before .before .from-cla .ensures) ∙ ap said (m .before .before .range .given .1), ← m .range-number .ensures) (t .tell .ensures)
+    rw (told saidCla (m .before .before .before .before .from-cla .ensures) (m .before .before .range .given .1), ← m .range-number .ensures) (t .tell .ensures)
 
 pub gorvisclen-range-spec : {M : Type 1} → statement M
 gorvisclen-range-spec =
