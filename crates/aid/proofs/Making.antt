@@ -72,9 +72,9 @@ module _ (name : List ℕ) (t : ℕ) where
   pub passes : Passed name t → tested name t ≡ is tt
   passes h =
       elim (decLe 5 (length name)) [
-        | yes g ↦ from-five (h .most) (h .cut) g
+        | yes g ↦ from-five (omega arith) (omega arith) g
         | no g ↦
-            by-first (h .some) (h .cut) (omega arith)
+            by-first (omega arith) (omega arith) (omega arith)
             ∙ other-short (getD name 0 0) (h .international (omega arith)) (h .national (omega arith))
       ]
 
@@ -84,9 +84,9 @@ module _ (name : List ℕ) (t : ℕ) where
       let m : length name ≤ 16 = elim (decLe (length name) 16) [ yes p ↦ p | no p ↦ absurd (never 7 (too-long (omega arith))) ] in
       let c : t ≤ length name = elim (decLe t (length name)) [ yes p ↦ p | no p ↦ absurd (never 8 (cut-behind s m (omega arith))) ] in
       record {
-        some = s;
-        most = m;
-        cut = c;
+        some = omega arith;
+        most = omega arith;
+        cut = omega arith;
         international = λ g h. never 10 (by-first s c g ∙ international-short _ h);
         national = λ g h. never 9 (by-first s c g ∙ national-short _ h);
       }

@@ -51,15 +51,15 @@ drop-replicate (suc n) (suc m) a = rw suc-sub-suc (drop-replicate n m a)
 holding-whole : (name : List ℕ) (t : ℕ) → Passed name t → Whole (holding name t)
 unfolding over
 holding-whole name t h =
-    let first : getD (over name (replicate 16 0)) 0 0 ≡ getD name 0 0 = List·getD-append name _ 0 0 (h .some) in
+    let first : getD (over name (replicate 16 0)) 0 0 ≡ getD name 0 0 = List·getD-append name _ 0 0 (omega arith) in
     record {
-      array = length-over name (replicate 16 0) (h .most);
-      least = h .some;
-      most = h .most;
+      array = length-over name (replicate 16 0) (omega arith);
+      least = omega arith;
+      most = omega arith;
       zeros = drop-append-seam name (drop (length name) (replicate 16 0)) ∙ drop-replicate (length name) 16 0;
-      cut = h .cut;
+      cut = omega arith;
       rid = λ e. elim (decLe 5 (length name)) [
-        | yes g ↦ g
+        | yes g ↦ omega arith
         | no g ↦ absurd (⊎-elim (h .international (omega arith)) (h .national (omega arith)) (rw first at e))
       ];
     }
@@ -80,7 +80,7 @@ module _ (a : Aid) (w : Whole a) where
   name-passes : Passed (whole a) (a .truncated)
   name-passes =
       let n = name-length in
-      let first : getD (whole a) 0 0 ≡ getD (a .bytes) 0 0 = getD-take (a .len) (a .bytes) 0 0 (w .least) in
+      let first : getD (whole a) 0 0 ≡ getD (a .bytes) 0 0 = getD-take (a .len) (a .bytes) 0 0 (omega arith) in
       record {
         some = omega (arith, n);
         most = omega (arith, n);

@@ -58,14 +58,14 @@ pub channels-differ : (c : ℕ) → Differ ((0x40 ≤ c) × (c ≤ 0x7F) × (4 �
 unfolding channelOf
 channels-differ c =
     record {
-      differ = λ h e. (let s = channels-said c (h .0) (h .1) in let n : (4 + c) % 8 ≡ 4 + c % 16 = cc in omega arith);
+      differ = λ h e. (let s = channels-said c (omega arith) (omega arith) in let n : (4 + c) % 8 ≡ 4 + c % 16 = cc in omega arith);
       equal = λ h.
           ⊎-elim
           (λ f.
           elim (decLe 4 (c % 16)) [
-            | yes p ↦ absurd (h (f .0, f .1, p))
+            | yes p ↦ absurd (h (omega arith, omega arith, p))
             | no p ↦
-                let s = channels-said c (f .0) (f .1) in let n : (4 + c) % 8 ≡ 4 + c % 16 = omega arith in rw (s .0, s .1, n)
+                let s = channels-said c (omega arith) (omega arith) in let n : (4 + c) % 8 ≡ 4 + c % 16 = omega arith in rw (s .0, s .1, n)
           ])
           (λ o. other c _ _ _ _ o)
           (between c);
@@ -76,13 +76,18 @@ unfolding secureMessagingOf
 secure-messaging-differs c =
     record {
       differ = λ h e.
-          omega (arith, e, crate-standard c (h .0) (omega arith), standard-none c (h .0) (omega arith) (h .1));
+          omega (
+            arith,
+            e,
+            crate-standard c (omega arith) (omega arith),
+            standard-none c (omega arith) (omega arith) (omega arith),
+          );
       equal = λ h.
           ⊎-elim
           (λ f.
           elim (decLe c 0x5F) [
-            | yes p ↦ absurd (h (f .0, p))
-            | no p ↦ crate-standard c (f .0) (f .1) ∙⁻¹ standard-standard c (f .0) (f .1) (omega arith)
+            | yes p ↦ absurd (h (omega arith, p))
+            | no p ↦ crate-standard c (omega arith) (omega arith) ∙⁻¹ standard-standard c (omega arith) (omega arith) (omega arith)
           ])
           (λ o. other c _ _ _ _ o)
           (between c);
