@@ -3,7 +3,8 @@ use Prim.Native.Nat.{ℕ, _/_}
 use mathlib.Core.Path.{_≡_, ap, _∙_}
 use mathlib.Core.Bool.{Bool}
 use borrow.Author.Tests.{ne-eqb}
-use Rattle.aid.specs.Category.{categoryOf, isIn, is-in-is}
+use lib.Dec.{eqb}
+use Rattle.aid.specs.Category.{categoryOf, category, isIn, is-in-is}
 use Rattle.aid.specs.declared.Aid.{Aid}
 
 module _ (b : ℕ) where
@@ -27,6 +28,9 @@ module _ (b : ℕ) where
   unfolding categoryOf
   is-other i n s p = rw (ne-eqb (b / 16) 0xA i, ne-eqb (b / 16) 0xD n, ne-eqb (b / 16) 0xE s, ne-eqb (b / 16) 0xF p)
 
--- a test for a category is the test for its number
+-- a test for a category, by the numbers compared, and of an equal number
+pub by-number : (a : Aid) (k n m : ℕ) → n ≡ category a → m ≡ k → is-in-is k a (eqb n m)
+by-number a k n m e f = rw (e, f)
+
 pub same-category : (a : Aid) (k l : ℕ) (r : Bool) → is-in-is k a r → k ≡ l → is-in-is l a r
 same-category a k l r e f = e ∙ ap (λ (n : ℕ). isIn n a) f

@@ -16,7 +16,7 @@ use Rattle.aid.specs.declared.Aid.{Aid}
 use Rattle.aid.specs.declared.part.Part.{Part}
 use Rattle.aid.specs.declared.part.Part.the-variants.{Rid}
 use Rattle.aid.specs.declared.part.Span.{Span}
-use Rattle.aid.specs.declared.part.Span.the-variants.{Of}
+use Rattle.aid.specs.declared.part.Span.the-variants.{Of, None}
 use Rattle.aid.specs.declared.part.Length.the-variants as len
 use Rattle.aid.specs.declared.part.Copied.the-variants as copied
 
@@ -61,3 +61,11 @@ module _ {p : Part} {a : Aid} {r : Span} {s e : ℕ} (h : length (a .bytes) ≡ 
   pub done : (to after : List ℕ) (n : ℕ) → e - s ≤ length to → n ≡ length (between (a .bytes) s e)
       → after ≡ over (between (a .bytes) s e) to → copy-part-is p a to (copied.Bytes n) after
   done to after n g en ea = record { reply = rw (← at .shows, size, le-ltb, en, size); buffer = rw (← at .shows, size, le-ltb) ea }
+
+-- a part that is absent
+module _ {p : Part} {a : Aid} {r : Span} (x : Spans p a r) (q : r ≡ None) where
+  pub unmeasured : part-len-is p a len.None
+  unmeasured = rw (← x .shows, q)
+
+  pub not-copied : (to : List ℕ) → copy-part-is p a to copied.None to
+  not-copied to = record { reply = rw (← x .shows, q); buffer = rw (← x .shows, q) }

@@ -3,8 +3,11 @@ use Prim.Native.Nat.{ℕ, _≤_, _<_}
 use mathlib.Core.Path.{_≡_, ap, _∙_}
 use native.Mathlib.Omega.{arith}
 use borrow.Author.Tests.{lt-ltb, le-ltb}
+use Rattle.basis.specs.Reply.{is, no}
 use Rattle.basis.proofs.Reply.{told}
-use Rattle.class.specs.Range.{rangeOf, saidRange}
+use Rattle.class.specs.Class.{fromByte}
+use Rattle.class.specs.Range.{rangeOf, fromCla, saidRange}
+use Rattle.class.specs.declared.Class.{Class}
 use Rattle.class.specs.declared.range.Range.{Range}
 use Rattle.class.specs.declared.range.Range.the-variants as range
 use Rattle.class.specs.declared.range.Interindustry.{Interindustry}
@@ -30,3 +33,13 @@ module _ (c : ℕ) where
   pub interindustry : (x : Range) (w k : Interindustry) → saidRange x ≡ rangeOf c → x ≡ range.Interindustry w → w ≡ k
       → rangeOf c ≡ saidRange (range.Interindustry k)
   interindustry x w k e f g = told saidRange e (f ∙ ap range.Interindustry g)
+
+-- the range of a class byte, from what the code was told of its class
+module _ (c d : ℕ) where
+  pub of-class : (x : Class) (n : ℕ) → fromByte d ≡ is x → d ≡ c → n ≡ rangeOf (x .cla) → is n ≡ fromCla c
+  unfolding fromCla
+  of-class x n e f g = rw (← f, e, g)
+
+  pub of-none : (k j : ℕ) → fromByte d ≡ no k → d ≡ c → j ≡ k → no j ≡ fromCla c
+  unfolding fromCla
+  of-none k j e f g = rw (← f, e, g)

@@ -2,7 +2,7 @@ use borrow.Author.Needs.{needs}
 use native.Mathlib.Omega.{arith}
 use mathlib.Core.Path.{_∙_}
 use Rattle.basis.proofs.Part.{copied}
-use Rattle.aid.proofs.Spans.{starts, ends, too-small, done}
+use Rattle.aid.proofs.Spans.{starts, ends, too-small, done, not-copied}
 use Rattle.aid.proofs.Aid.copy_part.Statement.{statement}
 use Rattle.aid.proofs.Aid.copy_part.Tie as tie
 
@@ -25,9 +25,7 @@ part-copy-end c =
     let d = c .before .before .before .before in ends (search needs) (d .before .before .span-of .ensures) (d .start .given .1)
 
 returns-2 : tie.Need-returns-2
-returns-2 c =
-    let e = c .before .before .span-of .ensures .shows in
-    record { reply = rw (← e, c .enum-told .given .1); buffer = rw (← e, c .enum-told .given .1) }
+returns-2 c = not-copied (c .before .before .span-of .ensures) (c .enum-told .given .1) _
 
 returns-3 : tie.Need-returns-3
 returns-3 c =

@@ -1,10 +1,10 @@
 use borrow.Author.Needs.{needs}
-use Rattle.aid.proofs.Spans.{starts, measured}
+use Rattle.aid.proofs.Spans.{starts, measured, unmeasured}
 use Rattle.aid.proofs.Aid.part_len.Statement.{statement}
 use Rattle.aid.proofs.Aid.part_len.Tie as tie
 
 returns-2 : tie.Need-returns-2
-returns-2 c = rw (← c .before .before .span-of .ensures .shows, c .enum-told .given .1)
+returns-2 c = unmeasured (c .before .before .span-of .ensures) (c .enum-told .given .1)
 
 pub part-len-spec : {M : Type 1} → statement M
 part-len-spec =

@@ -1,4 +1,7 @@
 use borrow.Author.Needs.{needs}
+use native.Mathlib.Omega.{arith}
+use Rattle.basis.proofs.Truth.{says, says-not}
+use Rattle.class.specs.Chain.{notTheLast, saidChain}
 use Rattle.class.proofs.chain.Chain.not_the_last.Statement.{statement}
 use Rattle.class.proofs.chain.Chain.not_the_last.Tie as tie
 
@@ -9,6 +12,6 @@ not-the-last-spec =
     (λ c. search needs)
     (λ c. search needs)
     (λ c. search needs)
-    (λ c. rw (c .enum-told .given .1))
-    (λ c. rw (c .enum-told2 .given .1))
-    (λ c. rw (c .enum-told3 .given .1)))
+    (λ c. says-not saidChain notTheLast (c .enum-told .given .1) (omega arith))
+    (λ c. says saidChain notTheLast (c .enum-told2 .given .1) (omega arith))
+    (λ c. says-not saidChain notTheLast (c .enum-told3 .given .1) (omega arith)))
