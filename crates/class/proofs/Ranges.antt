@@ -1,10 +1,9 @@
 -- The range of a class byte, by the bytes that lie in it and by what the code was told of it. Assumes nothing.
 use Prim.Native.Nat.{ℕ, _≤_, _<_}
-use mathlib.Core.Path.{_≡_, ap, _∙_}
+use mathlib.Core.Path.{_≡_, sym, ap, _∙_}
 use native.Mathlib.Omega.{arith}
 use borrow.Author.Tests.{lt-ltb, le-ltb}
 use Rattle.basis.specs.Reply.{is, no}
-use Rattle.basis.proofs.Reply.{told}
 use Rattle.class.specs.Class.{fromByte}
 use Rattle.class.specs.Range.{rangeOf, fromCla, saidRange}
 use Rattle.class.specs.declared.Class.{Class}
@@ -29,10 +28,13 @@ module _ (c : ℕ) where
   unfolding rangeOf
   is-proprietary g = rw (le-ltb c 0x20 (omega arith), le-ltb c 0x40 (omega arith), le-ltb c 0x80 g)
 
-  -- from what the code was told of an answer and of the interindustry range in it
-  pub interindustry : (x : Range) (w k : Interindustry) → saidRange x ≡ rangeOf c → x ≡ range.Interindustry w → w ≡ k
-      → rangeOf c ≡ saidRange (range.Interindustry k)
-  interindustry x w k e f g = told saidRange e (f ∙ ap range.Interindustry g)
+-- from what the code was told of an answer and of the interindustry range in it
+module _ (x : Range) (w k : Interindustry) (told-range : x ≡ range.Interindustry w) (told-which : w ≡ k) where
+  pub named : saidRange x ≡ saidRange (range.Interindustry k)
+  named = ap saidRange (told-range ∙ ap range.Interindustry told-which)
+
+  pub interindustry : (c : ℕ) → saidRange x ≡ rangeOf c → rangeOf c ≡ saidRange (range.Interindustry k)
+  interindustry c e = sym e ∙ named
 
 -- the range of a class byte, from what the code was told of its class
 module _ (c d : ℕ) where

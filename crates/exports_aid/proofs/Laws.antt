@@ -2,12 +2,15 @@
 use Prim.Native.Nat.{ℕ, _≤_, _<_}
 use mathlib.Core.Path.{_≡_, refl, sym, ap, _∙_}
 use mathlib.Core.Bool.{Bool, true, false, cond}
-use mathlib.Core.List.{List}
+use mathlib.Core.List.{List, [], _∷_}
 use mathlib.Core.Option.{Option, none, some}
 use lib.Dec.{ltb}
 use lib.ListN.{length}
+use lib.Seq.{sets}
 use borrow.Author.Tests.{lt-ltb, le-ltb}
 use Rattle.basis.specs.Reply.{Reply, is, no, then, status}
+use Rattle.basis.specs.Part.{over}
+use Rattle.basis.proofs.Part.{stored}
 use Rattle.aid.specs.Making.{tryNew, said, try-new-truncatable-is}
 use Rattle.aid.specs.Part.{copyOf, saidCopied, copy-part-is}
 use Rattle.aid.specs.declared.Aid.{Aid}
@@ -30,6 +33,10 @@ module _ (name : List ℕ) (t : ℕ) (r : TryNew) where
 
   pub refused : (k : ℕ) → try-new-truncatable-is name t r → r .answer ≡ Refused k → tryNew name t ≡ no k
   refused k h e = answered (Refused k) h e
+
+-- one number told
+pub told-one : (n m : ℕ) (out : List ℕ) → 1 ≤ length out → n ≡ m → sets out 0 (n ∷ []) ≡ over (m ∷ []) out
+told-one n m out h e = rw (← e) (stored (n ∷ []) out h)
 
 -- no AID; no room to tell a length; room, and what a copy replied
 pub none-made : (p : Part) (k : ℕ) (to out : List ℕ) (r : ℕ) → refuse-is k (length out) 1 r → PartCopied p (no k) to out r to out

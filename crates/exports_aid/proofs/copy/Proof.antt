@@ -1,10 +1,8 @@
 use borrow.Author.Needs.{needs}
 use mathlib.Core.Path.{refl, ap}
-use mathlib.Core.List.{[], _∷_}
 use native.Mathlib.Omega.{arith}
-use Rattle.basis.proofs.Part.{stored}
 use Rattle.aid.specs.Part.{saidCopied}
-use Rattle.exports_aid.proofs.Laws.{no-room, told-of}
+use Rattle.exports_aid.proofs.Laws.{no-room, told-of, told-one}
 use Rattle.exports_aid.proofs.copy.Statement.{statement}
 use Rattle.exports_aid.proofs.copy.Tie as tie
 
@@ -20,13 +18,13 @@ returns-3 : tie.Need-returns-3
 returns-3 c =
     let p = c .before .before .before .before .before in
     told-of _ _ _ _ (p .before .before .if1 .left) _ _ _ _ (p .copy-part .ensures) (ap saidCopied (c .before .n .given .1))
-    (stored (_ ∷ []) _ (omega arith))
+    (told-one _ _ _ (omega arith) (omega arith))
 
 returns-4 : tie.Need-returns-4
 returns-4 c =
     let p = c .before .before .before .before in
     told-of _ _ _ _ (p .before .before .if1 .left) _ _ _ _ (p .copy-part .ensures) (ap saidCopied (c .enum-told .given .1))
-    (stored (_ ∷ []) _ (omega arith))
+    (told-one _ _ _ (omega arith) (omega arith))
 
 pub copy-spec : {M : Type 1} → statement M
 copy-spec =

@@ -1,4 +1,6 @@
 use borrow.Author.Needs.{needs}
+use native.Mathlib.Omega.{arith}
+use Rattle.exports_class.proofs.Laws.{three}
 use Rattle.exports_class.proofs.gorvisclen_class_constants.Statement.{statement}
 use Rattle.exports_class.proofs.gorvisclen_class_constants.Tie as tie
 
@@ -6,7 +8,8 @@ returns : tie.Need-returns
 returns c =
     let t = c .before .before in
     let m = t .before .before .before in
-    rw (m .into-inner3 .ensures, m .before .into-inner2 .ensures, m .before .before .into-inner .ensures) at (t .tell .ensures)
+    three _ _ _ _ _ _ (t .tell .ensures) (omega (arith, m .before .before .into-inner .ensures)) (omega (arith, m .before .into-inner2 .ensures))
+    (omega (arith, m .into-inner3 .ensures))
 
 pub gorvisclen-class-constants-spec : {M : Type 1} → statement M
 gorvisclen-class-constants-spec =

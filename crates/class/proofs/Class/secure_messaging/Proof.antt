@@ -10,21 +10,21 @@ returns : tie.Need-returns
 unfolding secureMessagingOf
 returns c =
     let w = c .before .before .before .before in
-    rw (interindustry _ _ _ _ (w .before .before .range .ensures) (w .which .given .1) (c .before .enum-told .given .1))
+    rw (interindustry _ _ _ (w .which .given .1) (c .before .enum-told .given .1) _ (w .before .before .range .ensures))
     (c .first .ensures)
 
 returns-2 : tie.Need-returns-2
 unfolding secureMessagingOf
 returns-2 c =
     let w = c .before .before .before .before in
-    rw (interindustry _ _ _ _ (w .before .before .range .ensures) (w .which .given .1) (c .before .enum-told2 .given .1))
+    rw (interindustry _ _ _ (w .which .given .1) (c .before .enum-told2 .given .1) _ (w .before .before .range .ensures))
     (c .further .ensures)
 
 returns-3 : tie.Need-returns-3
 unfolding secureMessagingOf
 returns-3 c =
     let w = c .before .before .before in
-    rw (interindustry _ _ _ _ (w .before .before .range .ensures) (w .which .given .1) (c .enum-told3 .given .1))
+    rw (interindustry _ _ _ (w .which .given .1) (c .enum-told3 .given .1) _ (w .before .before .range .ensures))
 
 returns-4 : tie.Need-returns-4
 unfolding secureMessagingOf
