@@ -4,7 +4,7 @@ use mathlib.Core.Path.{_≡_, refl, sym, _∙_, subst}
 use mathlib.Core.Bool.{Bool, true, false, cond}
 use mathlib.Core.List.{List}
 use native.Mathlib.Omega.{arith}
-use native.Mathlib.Decide.{decLe, decLt}
+use native.Mathlib.Decide.{decLe}
 use borrow.Author.Tests.{eq-eqb, ne-eqb, lt-ltb, le-ltb}
 use lib.Dec.{eqb}
 use lib.ListN.{length, getD, replicate}
@@ -12,7 +12,7 @@ use Rattle.basis.specs.Part.{over}
 use Rattle.basis.specs.Reply.{Reply, is, no as refused}
 use Rattle.basis.proofs.Reply.{no-is}
 use Rattle.aid.specs.Category.{categoryOf}
-use Rattle.aid.specs.Making.{underFive, tested, holding, tryNew, blank, try-new-truncatable-is}
+use Rattle.aid.specs.Making.{underFive, tested, tryNew, blank, try-new-truncatable-is}
 use Rattle.aid.specs.declared.Answer.the-variants.{Made, Refused}
 use Rattle.aid.specs.declared.TryNew.{TryNew}
 use Rattle.aid.proofs.Categories.{is-international, is-national}

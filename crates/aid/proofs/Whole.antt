@@ -1,13 +1,13 @@
 -- That an AID by value stays whole: what is made is made of a name, and the AIDs that are made of a name are exactly those that have what
 -- the Rust takes for granted. Assumes nothing.
-use Prim.Native.Nat.{ℕ, zero, suc, _-_, _/_}
+use Prim.Native.Nat.{ℕ, zero, suc, _-_}
 use mathlib.Core.Path.{_≡_, refl, ap, _∙_}
 use mathlib.Core.Logic.{inl, inr, ⊎-elim}
-use mathlib.Core.List.{List, [], _∷_, _++_}
+use mathlib.Core.List.{List, [], _∷_}
 use native.Mathlib.Omega.{arith}
 use native.Mathlib.Decide.{decLe}
 use native.Mathlib.Nat.{sub-zero, zero-sub, suc-sub-suc}
-use lib.ListN.{length, getD, take, drop, replicate, take-append-drop, List·getD-append}
+use lib.ListN.{length, getD, drop, replicate, take-append-drop, List·getD-append}
 use lib.Seq.{take-append-seam, drop-append-seam, length-take-le, getD-take}
 use Rattle.basis.specs.Reply.{Reply, is, no as refused, then}
 use Rattle.basis.specs.Part.{over}

@@ -5,7 +5,7 @@ use mathlib.Core.Bool.{Bool}
 use native.Mathlib.Omega.{arith}
 use lib.Bits.{bitAnd, bitOr, and-high, or-add-and}
 use lib.Dec.{eqb}
-use Rattle.class.specs.Chain.{bit, chained, chain-is, as-chained-is, not-the-last-is}
+use Rattle.class.specs.Chain.{bit, chained, chain-is, not-the-last-is}
 use Rattle.class.specs.declared.Class.{Class}
 use Rattle.class.specs.declared.chain.Chain.{Chain}
 
