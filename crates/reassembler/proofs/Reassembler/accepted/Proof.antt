@@ -8,14 +8,14 @@ returns : tie.Need-returns
 returns c =
     let n = c .before in
     let a = n .before .before .before .args in
-    more (a .self) (a .view) (a .len) (bit-is _ (n .before .chain .result) _ _ (n .before .chain .ensures) (n .not-the-last .ensures) (c .if1 .taken))
+    more (a .self) (a .view) (a .len) (bit-is (a .view .class) (n .before .chain .result) _ _ (n .before .chain .ensures) (n .not-the-last .ensures) (c .if1 .taken))
 
 returns-2 : tie.Need-returns-2
 returns-2 c =
     let i = c .before in
     let n = i .before in
     let a = n .before .before .before .args in
-    last (a .self) (a .view) (a .len) _ (bit-is _ (n .before .chain .result) _ _ (n .before .chain .ensures) (n .not-the-last .ensures) (i .if1 .left))
+    last (a .self) (a .view) (a .len) _ (bit-is (a .view .class) (n .before .chain .result) _ _ (n .before .chain .ensures) (n .not-the-last .ensures) (i .if1 .left))
     (c .command .ensures)
 
 pub accepted-spec : {M : Type 1} → statement M
