@@ -39,7 +39,7 @@ function kind(t) {
     if (t ~ /does not follow from what it read/) return "a fact"
     if (t ~ /but this has type `|the two (types|sides|values) /) return "a fact"
     if (t ~ /two ends are equal, and `Path /) return "a fact"
-    if (t ~ /`search`: no proof of |`cc`: the equations do not join /) return "a fact"
+    if (t ~ /`search`: no proof of |`cc`: the equations do not join /) return "a search that finds nothing"
     return "the proof file's shape"
 }
 

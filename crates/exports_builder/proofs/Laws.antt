@@ -92,3 +92,8 @@ module _ (c i p q e m : ℕ) (d : List ℕ) where
     equal-told s y h a =
         let f = told-equal (length d) x (parse Crate s) (λ b v. equalTo b d v (dataIn s (parse Crate s))) few in
         subst (λ z. Answers 1 z out r after) (ap equalNumbers (h ∙ ap (λ z. comparing z d s) known) ∙ f) a
+
+-- one number told, for a reply that is that number
+pub told-as : {y : Reply (List ℕ)} (n : ℕ) {out after : List ℕ} {r : ℕ} → y ≡ is (n ∷ []) → Answers 1 (is (n ∷ [])) out r after
+    → Answers 1 y out r after
+told-as n {out} {after} {r} e a = subst (λ (z : Reply (List ℕ)). Answers 1 z out r after) (sym e) a

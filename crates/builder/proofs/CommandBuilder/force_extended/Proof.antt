@@ -2,6 +2,9 @@ use borrow.Author.Needs.{needs}
 use Rattle.builder.proofs.CommandBuilder.force_extended.Statement.{statement}
 use Rattle.builder.proofs.CommandBuilder.force_extended.Tie as tie
 
+returns : tie.Need-returns
+returns c = rw (c .enum-told .given .1)
+
 returns-2 : tie.Need-returns-2
 returns-2 c = rw (c .before .enum-told2 .given .1) (c .forced .ensures)
 
@@ -17,6 +20,6 @@ force-extended-spec =
     (λ c κs. search needs)
     (λ c. search needs)
     (λ c κs. search needs)
-    (λ c. search needs)
+    returns
     returns-2
     returns-3)
