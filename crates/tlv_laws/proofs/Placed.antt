@@ -23,8 +23,8 @@ use Rattle.tlv_laws.proofs.Front.{object-front}
 use Rattle.tlv_laws.proofs.Behind.{follow-append}
 use Rattle.tlv_laws.proofs.Boundary.{along, walked-at}
 use Rattle.tlv_laws.proofs.Covered.{covered-first, covered-later}
-use Rattle.tlv_laws.proofs.Skipped.{passed-next, passed-level, passed-entered, passed-aside, behind-aside}
-use Rattle.tlv_laws.proofs.Skipped.{last-found, last-refused, found-outside, aside-unseen, aside-value, refilled-byte}
+use Rattle.tlv_laws.proofs.Skipped.{passed-next, passed-level, passed-entered, last-found, last-refused, found-outside}
+use Rattle.tlv_laws.proofs.Aside.{passed-aside, behind-aside, aside-unseen, aside-value, refilled-byte}
 
 -- what is passed over behind whole objects with other tags is passed over by the walk that begins with them
 passed-on : (r : Reading) (t i : ℕ) (y : List ℕ) (a : ℕ) (x : List ℕ) → seek r t a x ≡ refused 11

@@ -2,30 +2,30 @@
 -- document 01, "BER records". Assumes nothing.
 use Prim.Native.Nat.{ℕ, zero, suc, _+_, _≤_, _<_}
 use mathlib.Core.Path.{_≡_, refl, sym, ap, _∙_}
-use mathlib.Core.Bool.{true, false, cond}
+use mathlib.Core.Bool.{true, false}
 use mathlib.Core.List.{List, [], _∷_, _++_, append-nil}
-use native.Mathlib.Nat.{zero-add, add-assoc}
+use native.Mathlib.Nat.{add-assoc}
 use native.Mathlib.Omega.{arith}
-use lib.Dec.{ltb, eqb}
+use lib.Dec.{eqb}
 use lib.ListN.{length, getD, take, drop, length-take, length-drop}
 use lib.Seq.{getD-take, getD-drop, ext-getD, length-take-le}
-use borrow.Author.Tests.{ltb-true, lt-ltb, ne-eqb}
+use borrow.Author.Tests.{lt-ltb, ne-eqb}
 use Rattle.basis.specs.Reply.{is, no as refused}
 use Rattle.basis.proofs.Reply.{All, all-is, all-weaken, then-same, no-is}
 use Rattle.tlv.specs.Tag.{tagOf}
 use Rattle.tlv.specs.Object.{Object, sizeOf, objectOf}
-use Rattle.tlv.specs.Lookup.{Span, part, whole, seekIn, seek, follow, lookup, valueIn}
+use Rattle.tlv.specs.Lookup.{Span, part, whole, seekIn, seek, follow, lookup}
 use Rattle.tlv.specs.declared.Reading.{Reading}
-use Rattle.tlv.proofs.Within.{Lies, object-inside, seek-inside, lookup-inside}
+use Rattle.tlv.proofs.Within.{Lies, object-inside, seek-inside}
 use Rattle.basis.specs.Every.{Every}
 use Rattle.basis.proofs.Every.{every-append, every-weaken}
 use Rattle.tlv_laws.specs.Skipped.{valueAt, passedIn, passedAt, passedFrom, passed, lastFrom, lastEntered, past}
-use Rattle.tlv_laws.specs.Skipped.{covers, coveredBy, behind, aside, refill, seenTo, seen}
-use Rattle.tlv_laws.proofs.Choice.{by-test, by-reply, on-cond, same-cond, second, all-self, all-both}
+use Rattle.tlv_laws.specs.Skipped.{covers, coveredBy, seenTo, seen}
+use Rattle.tlv_laws.proofs.Choice.{by-test, by-reply, on-cond, same-cond, all-self, all-both}
 use Rattle.tlv_laws.proofs.Front.{object-front}
 use Rattle.tlv_laws.proofs.Behind.{follow-inside}
 use Rattle.tlv_laws.proofs.Covered.{Before, covers-ahead, covers-behind, uncovered, uncovered-append}
-use Rattle.tlv_laws.proofs.Covered.{covered-first, covered-later, covered-left, covered-right, covered-before, length-fill, byte-fill}
+use Rattle.tlv_laws.proofs.Covered.{covered-left, covered-right, covered-before}
 
 -- the place and the length of a value, as the object tells them
 value-place : (a : ℕ) (o : Object) → valueAt a o ≡ record { at = a + o .at; len = o .len }
@@ -63,7 +63,7 @@ module _ (r : Reading) (t : ℕ) where
       ∙ rw (e, ne-eqb (o .tag) t h) (λ i. value-place a o i ∷ rest i)
 
 -- two lists with one byte at each of the first k places
-take-same : (k : ℕ) (s s′ : List ℕ) → k ≤ length s → k ≤ length s′ → ((i : ℕ) → i < k → getD s i 0 ≡ getD s′ i 0)
+pub take-same : (k : ℕ) (s s′ : List ℕ) → k ≤ length s → k ≤ length s′ → ((i : ℕ) → i < k → getD s i 0 ≡ getD s′ i 0)
     → take k s ≡ take k s′
 take-same k s s′ h g same =
     let n : length (take k s) ≡ k = length-take-le k s h in
@@ -214,7 +214,7 @@ follow-outside r s p (t ∷ path) =
     (all-both L (λ q. Every (Before q) deeper) y (follow-inside r s m path) (follow-outside r s m path))))
     (λ k e. rw e tt)
 
-lookup-outside : (r : Reading) (s path : List ℕ) (p : Span) → lookup r s path ≡ is p → Every (Before p) (passed r s path)
+pub lookup-outside : (r : Reading) (s path : List ℕ) (p : Span) → lookup r s path ≡ is p → Every (Before p) (passed r s path)
 lookup-outside r s path p e =
     all-is (λ p. Every (Before p) (passed r s path)) (lookup r s path) p (follow-outside r s (whole s) path) e
 
@@ -341,10 +341,10 @@ module _ (r : Reading) (s : List ℕ) where
 
 -- the place up to which a lookup looks
 module _ (r : Reading) (s path : List ℕ) where
-  to-found : (p : Span) → lookup r s path ≡ is p → seenTo r s path ≡ p .at
+  pub to-found : (p : Span) → lookup r s path ≡ is p → seenTo r s path ≡ p .at
   to-found p e = rw e (omega arith)
 
-  to-refused : (k : ℕ) → lookup r s path ≡ refused k → seenTo r s path ≡ lastEntered r s path .at + lastEntered r s path .len
+  pub to-refused : (k : ℕ) → lookup r s path ≡ refused k → seenTo r s path ≡ lastEntered r s path .at + lastEntered r s path .len
   to-refused k e = rw e (omega arith)
 
 -- a lookup depends only on the bytes that it looks at: those outside of the values passed over and before the value found; where it
@@ -357,76 +357,3 @@ unseen r s s′ path long same =
     (λ p e. omega (arith, to-found r s path p e, all-is (λ q. i < q .at) (lookup r s path) p (l .2) e))
     (λ k e. omega (arith, to-refused r s path k e)) in
     same i (omega arith) (rw (l .0) (lt-ltb i (seenTo r s path) before))))
-
--- a place that a lookup looks at lies outside of the values passed over, before the value found, and before the end of the part
--- entered last
-module _ (r : Reading) (s path : List ℕ) where
-  pub seen-only : (i : ℕ) → seen r s path i ≡ true → (coveredBy (passed r s path) i ≡ false)
-      × ((p : Span) → lookup r s path ≡ is p → i < p .at) × (i < lastEntered r s path .at + lastEntered r s path .len)
-  seen-only i h =
-      let g = second (coveredBy (passed r s path) i) (ltb i (seenTo r s path)) h in
-      let before = ltb-true i (seenTo r s path) (g .1) in
-      let found : (p : Span) → lookup r s path ≡ is p → i < p .at = λ p e. omega (arith, to-found r s path p e) in (
-        g .0,
-        found,
-        by-reply (lookup r s path) (λ p e. rw (last-found r s path p e) (omega (arith, found p e)))
-            (λ k e. omega (arith, to-refused r s path k e)),
-      )
-
-  -- all that is left aside: what lies behind the part entered last, and the values passed over
-  pub behind-aside : (i : ℕ) → lastEntered r s path .at + lastEntered r s path .len ≤ i → i < length s
-      → coveredBy (aside r s path) i ≡ true
-  behind-aside i h g = covered-first (behind r s path) (passed r s path) i (omega arith) (omega arith)
-
-  pub passed-aside : (i : ℕ) → coveredBy (passed r s path) i ≡ true → coveredBy (aside r s path) i ≡ true
-  passed-aside i h = covered-later (behind r s path) (passed r s path) i h
-
-  -- a place that a lookup looks at is not left aside, and neither is a place of the value found
-  seen-stays : (i : ℕ) → seen r s path i ≡ true → coveredBy (aside r s path) i ≡ false
-  unfolding coveredBy
-  seen-stays i h =
-      let g = seen-only i h in
-      rw (covers-ahead (behind r s path) i (omega arith)) (g .0)
-
-  found-stays : (p : Span) → lookup r s path ≡ is p → (i : ℕ) → p .at ≤ i → i < past p → coveredBy (aside r s path) i ≡ false
-  unfolding coveredBy
-  found-stays p e i h g =
-      rw (covers-ahead (behind r s path) i (rw (last-found r s path p e) g))
-      (uncovered (passed r s path) i (every-weaken (λ q. covers q i ≡ false) (Before p) (passed r s path)
-      (λ q g. covers-behind q i (omega arith)) (lookup-outside r s path p e)))
-
-  -- a record of that length that has the same bytes wherever nothing is left aside has the same lookup, and shows the same value
-  module _ (s′ : List ℕ) (long : length s′ ≡ length s)
-      (same : (i : ℕ) → i < length s → coveredBy (aside r s path) i ≡ false → getD s′ i 0 ≡ getD s i 0) where
-    pub aside-unseen : lookup r s′ path ≡ lookup r s path
-    aside-unseen = unseen r s s′ path long (λ i h g. same i h (seen-stays i g))
-
-    pub aside-value : valueIn s′ (lookup r s′ path) ≡ valueIn s (lookup r s path)
-    aside-value =
-        rw aside-unseen (by-reply (lookup r s path) (λ p e.
-        let l = lookup-inside r s path p e in
-        rw e (take-same (p .len) (drop (p .at) s′) (drop (p .at) s) (simp (length-drop, long) (omega arith))
-        (simp length-drop (omega arith)) (λ i h.
-        getD-drop (p .at) s′ i 0 ∙ same (p .at + i) (omega arith) (found-stays p e (p .at + i) (omega arith) (omega arith))
-        ∙ sym (getD-drop (p .at) s i 0))))
-        (λ k e. rw e))
-
-module _ (f : ℕ → ℕ) (r : Reading) (s path : List ℕ) where
-  -- the record keeps its length
-  pub refilled-length : length (refill f r s path) ≡ length s
-  refilled-length = length-fill f (aside r s path) 0 s
-
-  -- the bytes of all that is left aside are those of f, all others stay
-  pub refilled-byte : (i : ℕ) → i < length s → getD (refill f r s path) i 0 ≡ cond (coveredBy (aside r s path) i) (f i) (getD s i 0)
-  refilled-byte i h = rw zero-add at (byte-fill f (aside r s path) 0 s i h)
-
-  refilled-same : (i : ℕ) → i < length s → coveredBy (aside r s path) i ≡ false → getD (refill f r s path) i 0 ≡ getD s i 0
-  refilled-same i h g = refilled-byte i h ∙ rw g
-
-  -- whatever bytes stand in the values passed over and behind the part entered last, the lookup is the same
-  pub refilled : lookup r (refill f r s path) path ≡ lookup r s path
-  refilled = aside-unseen r s path (refill f r s path) refilled-length refilled-same
-
-  -- and shows the same value
-  pub refilled-value : valueIn (refill f r s path) (lookup r (refill f r s path) path) ≡ valueIn s (lookup r s path)
-  refilled-value = aside-value r s path (refill f r s path) refilled-length refilled-same
