@@ -123,3 +123,23 @@ run-goes s st ls k (more {g = g} h r) e = no-is k (some g) (sym e ∙ h)
 -- from the start on no step is refused
 pub never-refused : (s : List ℕ) (st : Lines) (k : ℕ) → Reached s st → stepOf st s ≡ no k → ⊥
 never-refused s st k r e = let q = runs s st r in run-goes s st (q .lines-left) k (q .run) e
+
+-- Whom `Seen` counts: whoever is told "none left", whoever is given a line in whatever buffer and has seen the rest, and whoever is
+-- refused with 16 and has seen the text then.
+module _ (s : List ℕ) (st : Lines) (before after : List ℕ) where
+  pub seen-none-left : next-line-is st s before next.NoneLeft after → Seen s st []
+  seen-none-left p = none-left p
+
+  pub seen-line : (l : Line) (text : List ℕ) → next-line-is st s before (next.Line l) after → Seen s (l .rest) text
+      → Seen s st (take (l .len) after ++ text)
+  seen-line l text p q = line p q
+
+  pub seen-again : (text : List ℕ) → next-line-is st s before (next.Refused 16) after → Seen s st text → Seen s st text
+  seen-again text p q = again p q
+
+-- Which states `Reached` counts: the start, and what each step from one of them leads to.
+pub reached-start : (s : List ℕ) → Reached s lines.Start
+reached-start s = start
+
+pub reached-behind : (s : List ℕ) (st : Lines) (g : Given) → Reached s st → stepOf st s ≡ is (some g) → Reached s (g .rest)
+reached-behind s st g r e = behind r e
