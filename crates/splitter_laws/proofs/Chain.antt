@@ -11,7 +11,7 @@ use lib.Dec.{ltb}
 use lib.ListN.{length, take, drop, replicate, length-drop, length-map}
 use lib.Seq.{take-length, drop-drop}
 use Rattle.basis.specs.Reply.{Reply, is, no as refused}
-use Rattle.basis.proofs.Reply.{All, all-is, all-cond, all-then}
+use Rattle.basis.proofs.Reply.{no-is, All, all-is, all-cond, all-then}
 use Rattle.builder.specs.Builder.{newOf}
 use Rattle.builder.specs.declared.CommandBuilder.{CommandBuilder}
 use Rattle.builder.specs.declared.ExpectedLen.the-variants.{Ne}
@@ -23,7 +23,7 @@ use Rattle.splitter.specs.Pieces.{Part, parts, pieceOf, piecesOf, chainOf, left
 use Rattle.splitter.specs.declared.pieces.Piece.{Piece}
 use Rattle.splitter.specs.declared.pieces.Pieces.{Pieces}
 use Rattle.splitter.specs.declared.pieces.Pieces.the-variants as pieces
-use Rattle.splitter_laws.specs.Chain.{shortOf, startOf, ChainMade, answers, oneByOne, given, collected}
+use Rattle.splitter_laws.specs.Chain.{shortOf, startOf, ChainMade, bytesIn, answers, oneByOne, given, collected}
 use Rattle.splitter_laws.proofs.Cut.{step-whole, step-split, cut}
 
 -- When a chain is made, and what is refused: 3, 13, and 14 for a buffer under ten.
@@ -67,6 +67,12 @@ module _ (c i p q n e m : ℕ) where
 
   pub chain-made : (chain : Pieces) → chainOf c i p q n e m ≡ is chain → ChainMade c i p q n e m chain
   chain-made chain h = all-is (ChainMade c i p q n e m) (chainOf c i p q n e m) chain all-made h
+
+-- an answer by its bytes is "none left" only where the answer is
+pub bytes-none : (x : Reply (Option Piece)) (d : List ℕ) → bytesIn x d ≡ is none → x ≡ is none
+bytes-none (is none) d e = refl
+bytes-none (is (some p)) d e = cc e
+bytes-none (refused k) d e = absurd (no-is k none e)
 
 -- nothing left stays so
 none-left : (j : ℕ) (d : List ℕ) → answers j pieces.Done d ≡ replicate j (is none)
