@@ -37,6 +37,7 @@ function kind(t) {
     if (t ~ /the two types are identical/) return "types that read alike"
     if (literal(t)) return "a literal's text"
     if (t ~ /does not follow from what it read/) return "a fact"
+    if (t ~ /first differ where one has .* at the start/ && t !~ /computed as far as they go/) return "types that read alike"
     if (t ~ /but this has type `|the two (types|sides|values) /) return "a fact"
     if (t ~ /two ends are equal, and `Path /) return "a fact"
     if (t ~ /`search`: no proof of |`cc`: the equations do not join /) return "a search that finds nothing"

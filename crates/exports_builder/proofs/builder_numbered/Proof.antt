@@ -5,7 +5,11 @@ use Rattle.exports_builder.proofs.builder_numbered.Tie as tie
 
 returns : tie.Need-returns
 returns c =
-    let m = c .before in made _ _ _ _ _ _ _ _ _ _ (c .new .ensures) (m .before .expected-numbered .ensures) (m .mode-numbered .ensures)
+    let m = c .before in
+    let e = m .before in
+    let a = e .before .before .args in
+    made (a .class) (a .instruction) (a .p1) (a .p2) (a .le) (a .mode) (a .«data» .now) _ _ _
+    (c .new .ensures) (e .expected-numbered .ensures) (m .mode-numbered .ensures)
 
 pub builder-numbered-spec : {M : Type 1} → statement M
 builder-numbered-spec =
