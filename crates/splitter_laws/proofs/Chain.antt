@@ -69,10 +69,10 @@ module _ (c i p q n e m : ℕ) where
   chain-made chain h = all-is (ChainMade c i p q n e m) (chainOf c i p q n e m) chain all-made h
 
 -- an answer by its bytes is "none left" only where the answer is
-pub bytes-none : (x : Reply (Option Piece)) (d : List ℕ) → bytesIn x d ≡ is none → x ≡ is none
-bytes-none (is none) d e = refl
-bytes-none (is (some p)) d e = cc e
-bytes-none (refused k) d e = absurd (no-is k none e)
+pub none-left-only : (x : Reply (Option Piece)) (d : List ℕ) → bytesIn x d ≡ is none → x ≡ is none
+none-left-only (is none) d e = refl
+none-left-only (is (some p)) d e = cc e
+none-left-only (refused k) d e = absurd (no-is k none e)
 
 -- nothing left stays so
 none-left : (j : ℕ) (d : List ℕ) → answers j pieces.Done d ≡ replicate j (is none)
