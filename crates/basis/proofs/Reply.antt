@@ -22,6 +22,15 @@ abbrev pub All : {A : Type 0} → (A → Type 0) → Reply A → Type 0
 All P (is a) = P a
 All P (no k) = Unit {0}
 
+-- a reply is the value that it gives
+pub all-self : {A : Type 0} (x : Reply A) → All (λ a. x ≡ is a) x
+all-self (is a) = refl
+all-self (no k) = tt
+
+pub all-both : {A : Type 0} (P Q : A → Type 0) (x : Reply A) → All P x → All Q x → All (λ a. P a × Q a) x
+all-both P Q (is a) h g = (h, g)
+all-both P Q (no k) h g = tt
+
 module _ {A : Type 0} (P : A → Type 0) where
   pub all-is : (x : Reply A) (a : A) → All P x → x ≡ is a → P a
   all-is x a h e = subst (All P) e h

@@ -1,11 +1,11 @@
 -- Which case is used for how many data bytes and which Le, and what follows for the bytes of Lc and Le. Assumes nothing.
-use Prim.Native.Nat.{ℕ, zero, suc, _≤_, zero-le}
+use Prim.Native.Nat.{ℕ, zero, suc, _≤_}
 use mathlib.Core.Path.{_≡_, refl}
 use native.Mathlib.Decide.{decLe}
 use native.Mathlib.Omega.{arith}
 use borrow.Author.Tests.{le-leb, lt-leb, lt-ltb, le-ltb}
 use Rattle.builder.specs.Cases.{Case, case1, case2S, case3S, case4S, case2E, case3E, case4E}
-use Rattle.builder.specs.Cases.{lcBytes, leBytes, unlessForced, withData, afterShort, afterExtended, caseFor}
+use Rattle.builder.specs.Cases.{lcBytes, leBytes, unlessForced, afterShort, afterExtended, caseFor}
 use Rattle.builder.specs.Bytes.{leShown, caseOf, lcLen, leLen}
 use Rattle.builder.specs.declared.ExtendedLen.{ExtendedLen}
 use Rattle.builder.specs.declared.ExtendedLen.the-variants.{Unsupported, Supported, Forced}
@@ -22,12 +22,44 @@ Used case2E n e = (n ≡ 0) × (1 ≤ e)
 Used case3E n e = (1 ≤ n) × (e ≡ 0)
 Used case4E n e = (1 ≤ n) × (1 ≤ e)
 
--- a choice by the mode
-pub in-mode : (P : Case → Type 0) (m : ExtendedLen) (x y : Case) → ((m ≡ Forced → ⊥) → P x) → (m ≡ Forced → P y)
-    → P (unlessForced m x y)
-in-mode P Unsupported x y h g = h (λ e. let z : _≡_ {A = ℕ} 0 1 = cc in omega arith)
-in-mode P Supported x y h g = h (λ e. let z : _≡_ {A = ℕ} 0 1 = cc in omega arith)
-in-mode P Forced x y h g = g refl
+-- what holds of the case of a command, with an Le and no data, and with data: it holds of the short case, where Le, data and mode allow
+-- that, and of the extended one, where they do not
+by-mode : (P : Case → Type 0) (m : ExtendedLen) (x y : Case) → ((m ≡ Forced → ⊥) → P x) → (m ≡ Forced → P y) → P (unlessForced m x y)
+by-mode P Unsupported x y h g = h (λ e. let z : _≡_ {A = ℕ} 0 1 = cc in omega arith)
+by-mode P Supported x y h g = h (λ e. let z : _≡_ {A = ℕ} 0 1 = cc in omega arith)
+by-mode P Forced x y h g = g refl
+
+pub by-le : (P : Case → Type 0) (m : ExtendedLen) (e : ℕ) → 1 ≤ e → (e ≤ 256 → (m ≡ Forced → ⊥) → P case2S)
+    → ((e ≤ 256 → m ≡ Forced) → P case2E) → P (caseFor m 0 e)
+unfolding caseFor
+by-le P m zero some short extended = absurd (omega arith)
+by-le P m (suc e) some short extended =
+    elim (decLe (suc e) 256) [
+      | yes h ↦ rw (le-leb (suc e) 256 h) (by-mode P m case2S case2E (short h) (λ f. extended (λ _. f)))
+      | no h ↦
+          let long = extended (λ g. absurd (omega arith)) in
+          rw (lt-leb (suc e) 256 (omega arith)) (by-mode P m case2E case2E (λ _. long) (λ _. long))
+    ]
+
+pub by-data : (P : Case → Type 0) (m : ExtendedLen) (n e : ℕ) → 1 ≤ n → (n ≤ 255 → e ≤ 256 → (m ≡ Forced → ⊥) → P (afterShort e))
+    → ((n ≤ 255 → e ≤ 256 → m ≡ Forced) → P (afterExtended e)) → P (caseFor m n e)
+unfolding caseFor
+by-data P m zero e some short extended = absurd (omega arith)
+by-data P m (suc n) e some short extended =
+    elim (decLe (suc n) 255) [
+      | yes h ↦
+          elim (decLe e 256) [
+            | yes g ↦
+                rw (le-ltb 255 (suc n) h, le-ltb 256 e g)
+                (by-mode P m (afterShort e) (afterExtended e) (short h g) (λ f. extended (λ _ _. f)))
+            | no g ↦ rw (le-ltb 255 (suc n) h, lt-ltb 256 e (omega arith)) (extended (λ _ l. absurd (omega arith)))
+          ]
+      | no h ↦ rw (lt-ltb 255 (suc n) (omega arith)) (extended (λ l _. absurd (omega arith)))
+    ]
+
+none-used : (m : ExtendedLen) → Used (caseFor m 0 0) 0 0
+unfolding caseFor
+none-used m = (refl, refl)
 
 short-used : (n e : ℕ) → 1 ≤ n → n ≤ 255 → e ≤ 256 → Used (afterShort e) n e
 short-used n zero h g l = (h, g, refl)
@@ -38,27 +70,12 @@ extended-used n zero h = (h, refl)
 extended-used n (suc e) h = (h, omega arith)
 
 pub case-used : (m : ExtendedLen) (n e : ℕ) → Used (caseFor m n e) n e
-unfolding caseFor
-case-used m zero zero = (refl, refl)
+case-used m zero zero = none-used m
 case-used m zero (suc e) =
-    elim (decLe (suc e) 256) [
-      | yes h ↦ rw (le-leb (suc e) 256 h) (in-mode (λ x. Used x 0 (suc e)) m case2S case2E (λ _. (refl, omega arith, h)) (λ _. (refl, omega arith)))
-      | no h ↦
-          rw (lt-leb (suc e) 256 (omega arith))
-          (in-mode (λ x. Used x 0 (suc e)) m case2E case2E (λ _. (refl, omega arith)) (λ _. (refl, omega arith)))
-    ]
+    by-le (λ x. Used x 0 (suc e)) m (suc e) (omega arith) (λ h _. (refl, omega arith, h)) (λ _. (refl, omega arith))
 case-used m (suc n) e =
-    let extended = extended-used (suc n) e (omega arith) in
-    elim (decLe (suc n) 255) [
-      | yes h ↦
-          elim (decLe e 256) [
-            | yes g ↦
-                rw (le-ltb 255 (suc n) h, le-ltb 256 e g)
-                (in-mode (λ x. Used x (suc n) e) m (afterShort e) (afterExtended e) (λ _. short-used (suc n) e (omega arith) h g) (λ _. extended))
-            | no g ↦ rw (le-ltb 255 (suc n) h, lt-ltb 256 e (omega arith)) extended
-          ]
-      | no h ↦ rw (lt-ltb 255 (suc n) (omega arith)) extended
-    ]
+    by-data (λ x. Used x (suc n) e) m (suc n) e (omega arith) (λ h g _. short-used (suc n) e (omega arith) h g)
+    (λ _. extended-used (suc n) e (omega arith))
 
 -- Le 0 is omitted
 no-le : (x : Case) (n e : ℕ) → Used x n e → e ≡ 0 → leBytes x ≡ 0
@@ -83,26 +100,22 @@ lc-extended zero = refl
 lc-extended (suc e) = refl
 
 -- Lc of fewer data without Le is not longer
-lc-forced : (m : ExtendedLen) (e : ℕ) → lcBytes (unlessForced m case3S case3E) ≤ lcBytes (unlessForced m (afterShort e) (afterExtended e))
-lc-forced Unsupported e = rw (lc-short e) (omega arith)
-lc-forced Supported e = rw (lc-short e) (omega arith)
-lc-forced Forced e = rw (lc-extended e) (omega arith)
+lc-more : (m : ExtendedLen) (k n e : ℕ) → 1 ≤ k → k ≤ n → lcBytes (caseFor m k 0) ≤ lcBytes (caseFor m n e)
+lc-more m k n e some h =
+    let part = lcBytes (caseFor m k 0) in
+    by-data (λ x. part ≤ lcBytes x) m n e (omega arith)
+    (λ few _ free. rw (lc-short e) (by-data (λ x. lcBytes x ≤ 1) m k 0 some (λ _ _ _. omega arith)
+    (λ forced. absurd (free (forced (omega arith) (omega arith))))))
+    (λ _. rw (lc-extended e) (case-few (caseFor m k 0) .0))
 
-lc-more : (m : ExtendedLen) (k n e : ℕ) → k ≤ n → lcBytes (caseFor m k 0) ≤ lcBytes (caseFor m n e)
+lc-none : (m : ExtendedLen) → lcBytes (caseFor m 0 0) ≡ 0
 unfolding caseFor
-lc-more m zero n e h = zero-le
-lc-more m (suc k) zero e h = absurd (omega arith)
-lc-more m (suc k) (suc n) e h =
-    let few = case-few (withData m (suc k) 0) .0 in
-    elim (decLe (suc n) 255) [
-      | yes g ↦
-          elim (decLe e 256) [
-            | yes f ↦ rw (le-ltb 255 (suc n) g, le-ltb 255 (suc k) (omega arith), le-ltb 256 e f) (lc-forced m e)
-            | no f ↦ rw (le-ltb 255 (suc n) g, lt-ltb 256 e (omega arith), lc-extended e) few
-          ]
-      | no g ↦ rw (lt-ltb 255 (suc n) (omega arith), lc-extended e) few
-    ]
+lc-none m = refl
+
+lc-fewer : (m : ExtendedLen) (k n e : ℕ) → k ≤ n → lcBytes (caseFor m k 0) ≤ lcBytes (caseFor m n e)
+lc-fewer m zero n e h = omega (arith, lc-none m)
+lc-fewer m (suc k) n e h = lc-more m (suc k) n e (omega arith) h
 
 pub lc-part : (a b : CommandBuilder) (k n : ℕ) → a .mode ≡ b .mode → leShown a ≡ 0 → k ≤ n → lcLen a k ≤ lcLen b n
 unfolding lcLen caseOf
-lc-part a b k n m e h = rw (e, m) (lc-more (b .mode) k n (leShown b) h)
+lc-part a b k n m e h = rw (e, m) (lc-fewer (b .mode) k n (leShown b) h)

@@ -5,8 +5,8 @@ use mathlib.Core.Path.{_≡_, refl, ap}
 use mathlib.Core.Bool.{true, false}
 use native.Mathlib.Decide.{decLe}
 use native.Mathlib.Omega.{arith}
-use borrow.Author.Tests.{le-leb, lt-leb, lt-ltb, le-ltb}
-use Rattle.builder.specs.Cases.{case2S, case2E, afterShort, afterExtended, caseFor}
+use borrow.Author.Tests.{le-leb, lt-leb}
+use Rattle.builder.specs.Cases.{afterShort, afterExtended, caseFor}
 use Rattle.builder.specs.Bytes.{asked, loweredLen, loweredOf, leShown, caseOf}
 use Rattle.builder.specs.declared.ExpectedLen.{ExpectedLen}
 use Rattle.builder.specs.declared.ExpectedLen.the-variants.{Ne, Max}
@@ -14,7 +14,7 @@ use Rattle.builder.specs.declared.ExtendedLen.{ExtendedLen}
 use Rattle.builder.specs.declared.ExtendedLen.the-variants.{Unsupported, Supported, Forced}
 use Rattle.builder.specs.declared.CommandBuilder.{CommandBuilder}
 use Rattle.builder_laws.specs.Read.{Expected, isExtended, extendedFor, LeRead, ExtendedRead}
-use Rattle.builder_laws.proofs.Cases.{in-mode}
+use Rattle.builder_laws.proofs.Cases.{by-le, by-data}
 
 -- not lowered, lowered
 not-lowered : (m : ExtendedLen) (n : ℕ) → (m ≡ Unsupported → n ≤ 256) → loweredLen m (Ne n) ≡ Ne n
@@ -108,43 +108,27 @@ extended-is (suc e) = refl
 
 -- extended lengths: for data from 256, for an Le above 256, and where they are forced and there are any; else short ones
 data-long : (m : ExtendedLen) (n e : ℕ) → 255 < n → isExtended (caseFor m n e) ≡ true
-unfolding caseFor
-data-long m zero e h = absurd (omega arith)
-data-long m (suc n) e h = rw (lt-ltb 255 (suc n) h) (extended-is e)
+data-long m n e h = by-data (λ x. isExtended x ≡ true) m n e (omega arith) (λ few _ _. absurd (omega arith)) (λ _. extended-is e)
 
 le-large : (m : ExtendedLen) (n e : ℕ) → 256 < e → isExtended (caseFor m n e) ≡ true
-unfolding caseFor
-le-large m n zero h = absurd (omega arith)
-le-large m zero (suc e) h =
-    rw (lt-leb (suc e) 256 h) (in-mode (λ x. isExtended x ≡ true) m case2E case2E (λ _. refl) (λ _. refl))
-le-large m (suc n) (suc e) h =
-    elim (decLe (suc n) 255) [
-      | yes g ↦ rw (le-ltb 255 (suc n) g, lt-ltb 256 (suc e) h)
-      | no g ↦ rw (lt-ltb 255 (suc n) (omega arith))
-    ]
+le-large m zero e h = by-le (λ x. isExtended x ≡ true) m e (omega arith) (λ low _. absurd (omega arith)) (λ _. refl)
+le-large m (suc n) e h =
+    by-data (λ x. isExtended x ≡ true) m (suc n) e (omega arith) (λ _ low _. absurd (omega arith)) (λ _. extended-is e)
 
 forced : (m : ExtendedLen) (n e : ℕ) → m ≡ Forced → 1 ≤ n + e → isExtended (caseFor m n e) ≡ true
+forced m zero e k h = by-le (λ x. isExtended x ≡ true) m e (omega arith) (λ _ free. absurd (free k)) (λ _. refl)
+forced m (suc n) e k h = by-data (λ x. isExtended x ≡ true) m (suc n) e (omega arith) (λ _ _ free. absurd (free k)) (λ _. extended-is e)
+
+nothing : (m : ExtendedLen) → isExtended (caseFor m 0 0) ≡ false
 unfolding caseFor
-forced m zero zero k h = absurd (omega arith)
-forced m zero (suc e) k h = rw k
-forced m (suc n) e k h =
-    elim (decLe (suc n) 255) [
-      | yes g ↦
-          elim (decLe e 256) [
-            | yes f ↦ rw (le-ltb 255 (suc n) g, le-ltb 256 e f, k) (extended-is e)
-            | no f ↦ rw (le-ltb 255 (suc n) g, lt-ltb 256 e (omega arith)) (extended-is e)
-          ]
-      | no g ↦ rw (lt-ltb 255 (suc n) (omega arith)) (extended-is e)
-    ]
+nothing m = refl
 
 short : (m : ExtendedLen) (n e : ℕ) → n ≤ 255 → e ≤ 256 → (m ≡ Forced → n + e ≡ 0) → isExtended (caseFor m n e) ≡ false
-unfolding caseFor
-short m zero zero h g f = refl
+short m zero zero h g f = nothing m
 short m zero (suc e) h g f =
-    rw (le-leb (suc e) 256 g) (in-mode (λ x. isExtended x ≡ false) m case2S case2E (λ _. refl) (λ k. absurd (omega (arith, f k))))
+    by-le (λ x. isExtended x ≡ false) m (suc e) (omega arith) (λ _ _. refl) (λ k. absurd (omega (arith, f (k g))))
 short m (suc n) e h g f =
-    rw (le-ltb 255 (suc n) h, le-ltb 256 e g)
-    (in-mode (λ x. isExtended x ≡ false) m (afterShort e) (afterExtended e) (λ _. short-not e) (λ k. absurd (omega (arith, f k))))
+    by-data (λ x. isExtended x ≡ false) m (suc n) e (omega arith) (λ _ _ _. short-not e) (λ k. absurd (omega (arith, f (k h g))))
 
 -- by the data, the expected length and the mode
 pub extended-read : (b : CommandBuilder) (n : ℕ) → ExtendedRead b n

@@ -79,7 +79,7 @@ openedNumber (Open h) = 1
 
 -- the promise of `gorvisclen_reset`: it always succeeds, and no chain is open
 abbrev pub reset-is : ℕ → ℕ → ℕ → ℕ → ℕ → ℕ → ℕ → Type 0
-reset-is o c i p q n x = x ≡ openedNumber Closed
+reset-is o c i p q n x = x ≡ 0
 
 -- the promise of `gorvisclen_joined_data`: the first n bytes of the room, or all where it has fewer, copied and counted
 abbrev pub JoinedData : ℕ → List ℕ → List ℕ → List ℕ → ℕ → List ℕ → List ℕ → Type 0

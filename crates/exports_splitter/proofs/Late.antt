@@ -9,7 +9,7 @@ use borrow.Author.Tests.{le-ltb}
 use lib.Dec.{ltb, eqb}
 use lib.ListN.{length, take, drop, length-take, length-drop}
 use Rattle.basis.specs.Reply.{Reply, is, no, then}
-use Rattle.basis.proofs.Reply.{All, all-is, all-cond, all-then}
+use Rattle.basis.proofs.Reply.{All, all-is, all-cond, all-then, all-self}
 use Rattle.tell.specs.Answers.{short}
 use Rattle.builder.specs.Bytes.{commandOf, serializeOf}
 use Rattle.builder.specs.declared.CommandBuilder.{CommandBuilder}
@@ -81,10 +81,6 @@ Good d pieces.Done = Unit {0}
 late-good : (d : List ℕ) (m at : ℕ) (x : Pieces) → Good d x → Late (writeOf x d m at)
 late-good d m at (pieces.Left l) h = late-next d (h .0) m at (leftOf l d) (late-left d (h .0) l (h .1))
 late-good d m at pieces.Done h = tt
-
-all-self : {A : Type 0} (x : Reply A) → All (λ a. x ≡ is a) x
-all-self (is a) = refl
-all-self (no k) = tt
 
 module _ (c i p q e m place done : ℕ) (d : List ℕ) where
   all-good : All (Good d) (chainNumbered c i p q e m place done d)

@@ -9,7 +9,7 @@ use lib.Dec.{leb, eqb}
 use lib.ListN.{length, drop, length-take}
 use borrow.Author.Tests.{leb-true, le-leb}
 use Rattle.basis.specs.Reply.{Reply, is, no}
-use Rattle.basis.proofs.Reply.{All, all-cond, all-then}
+use Rattle.basis.proofs.Reply.{All, all-cond, all-then, all-self}
 use Rattle.basis.proofs.Truth.{both}
 use Rattle.tlv.specs.Object.{Object, sizeOf, objectOf}
 use Rattle.tlv.specs.declared.Reading.the-variants.{Crate}
@@ -57,10 +57,6 @@ pub is-sound : (s : List ℕ) (w : Within) → Sound s w → inRecord s w ≡ tr
 unfolding inRecord
 is-sound s w h =
     rw (is-counted s (w .place .at) (w .place .number) (h .place), le-leb (w .at) (w .place .at) (h .inside), le-leb (w .object) (w .at) (h .objects))
-
-pub all-itself : (x : Reply ℕ) → All (λ n. x ≡ is n) x
-all-itself (is n) = refl
-all-itself (no k) = tt
 
 -- the record behind
 pub next-sound : (s : List ℕ) (w : Within) (left n : ℕ) → Sound s w → itemOf (drop (w .place .at) s) ≡ is n → Sound s (nextRecord left (w .place) n)
@@ -124,5 +120,5 @@ unfolding foundIn
 found-lies zero s w h = lies-by s w (is none) h tt
 found-lies (suc left) s w h =
     lies-by s w _ h
-    (all-then (Lies s) (λ n. itemOf (drop (w .place .at) s) ≡ is n) (itemOf (drop (w .place .at) s)) _ (all-itself (itemOf (drop (w .place .at) s)))
+    (all-then (Lies s) (λ n. itemOf (drop (w .place .at) s) ≡ is n) (itemOf (drop (w .place .at) s)) _ (all-self (itemOf (drop (w .place .at) s)))
     (λ n e. found-lies left s (nextRecord left (w .place) n) (next-sound s w left n h e)))

@@ -10,7 +10,7 @@ use lib.Dec.{ltb, eqb}
 use lib.ListN.{length, take, drop, length-take, length-drop}
 use borrow.Author.Tests.{ltb-false, eqb-false}
 use Rattle.basis.specs.Reply.{Reply, is, no}
-use Rattle.basis.proofs.Reply.{no-is, All, all-is, all-cond, all-then, all-weaken}
+use Rattle.basis.proofs.Reply.{no-is, All, all-is, all-cond, all-then, all-weaken, all-self}
 use Rattle.tlv.specs.Tag.{tagOf}
 use Rattle.tlv.specs.Object.{Object, sizeOf, objectOf}
 use Rattle.tlv.specs.declared.Reading.the-variants.{Crate}
@@ -24,7 +24,7 @@ use Rattle.listing.specs.declared.lines.Lines.the-variants as lines
 use Rattle.listing.specs.declared.lines.Line.{Line}
 use Rattle.listing.specs.declared.lines.NextLine.the-variants as next
 use Rattle.listing.proofs.Form.{item-room}
-use Rattle.listing.proofs.Meeting.{Sound, sound, next-sound, all-itself}
+use Rattle.listing.proofs.Meeting.{Sound, sound, next-sound}
 
 -- at a record's end there is no object
 pub at-end : (s : List ℕ) (e : ℕ) → objectOf Crate (take (e - e) (drop e s)) ≡ no 11
@@ -68,7 +68,7 @@ onward zero s w h = onward-by s w (is none) h tt (objectOf Crate (leftOf s w)) r
 onward (suc left) s w h =
     onward-by s w _ h
     (all-then (Onward s (w .at)) (λ n. itemOf (drop (w .place .at) s) ≡ is n) (itemOf (drop (w .place .at) s)) _
-    (all-itself (itemOf (drop (w .place .at) s)))
+    (all-self (itemOf (drop (w .place .at) s)))
     (λ n e.
     let v = nextRecord left (w .place) n in
     all-weaken (Onward s (w .at)) (Onward s (v .at)) (foundIn left s v)
@@ -94,7 +94,7 @@ start-less s (no k) = omega arith
 command-less : (s : List ℕ) (at k left : ℕ) → All (Less s (2 + (length s - at))) (commandBy s at k left)
 unfolding weight
 command-less s at k zero =
-    all-then (Less s (2 + (length s - at))) (λ n. pairOf (drop at s) ≡ is n) (pairOf (drop at s)) _ (all-itself (pairOf (drop at s)))
+    all-then (Less s (2 + (length s - at))) (λ n. pairOf (drop at s) ≡ is n) (pairOf (drop at s)) _ (all-self (pairOf (drop at s)))
     (λ n e. omega arith)
 command-less s at k (suc left) =
     all-then (Less s (2 + (length s - at))) (λ n. 2 + n ≤ length (drop at s)) (itemOf (drop at s)) _ (item-room (drop at s))

@@ -6,8 +6,8 @@ use native.Mathlib.Omega.{arith}
 use lib.Dec.{ltb, leb, eqb}
 use lib.ListN.{length, getD, take, drop}
 use borrow.Author.Tests.{eqb-true, ltb-false}
-use Rattle.basis.specs.Reply.{Reply, is, no}
-use Rattle.basis.proofs.Reply.{All, all-cond, all-then, all-every}
+use Rattle.basis.specs.Reply.{is}
+use Rattle.basis.proofs.Reply.{All, all-cond, all-then, all-every, all-self, all-both}
 use Rattle.basis.specs.Number.{Bytes}
 use Rattle.tlv.specs.Tag.{Tag, sizeBy, thirdBy, threeBytes, longTag, tagOf}
 use Rattle.tlv.specs.Len.{lenOf}
@@ -72,11 +72,6 @@ tag-own s b =
     (λ _. tt))))))
     (λ _. one-byte a (b 0) ∙ ap hexes (sym (front-one s (ltb-false (length s) 1 h)))))
 
--- what a reply gives, it gives
-with-reply : {A : Type 0} (P : A → Type 0) (x : Reply A) → All P x → All (λ a. (x ≡ is a) × P a) x
-with-reply P (is a) h = (refl, h)
-with-reply P (no k) h = tt
-
 -- so is the tag of an object: all the bytes of the tag that was read there, and no others
 pub record Front (s : List ℕ) (o : Object) : Type 0 where
   pub tag : Tag
@@ -87,7 +82,7 @@ pub object-own : (s : List ℕ) → Bytes s → All (Front s) (objectOf Crate s)
 unfolding objectOf
 object-own s b =
     all-then (Front s) (λ t. (tagOf Crate s ≡ is t) × Own s (t .number) (t .size)) (tagOf Crate s) _
-    (with-reply (λ t. Own s (t .number) (t .size)) (tagOf Crate s) (tag-own s b))
+    (all-both (λ t. tagOf Crate s ≡ is t) (λ t. Own s (t .number) (t .size)) (tagOf Crate s) (all-self (tagOf Crate s)) (tag-own s b))
     (λ t h. all-then (Front s) (λ l. Unit {0}) (lenOf Crate (drop (t .size) s)) _
     (all-every (λ l. Unit {0}) (lenOf Crate (drop (t .size) s)) (λ l. tt))
     (λ l _. all-cond (Front s) (leb (l .number) (length s - (t .size + l .size))) _ _ (λ _. record { tag = t; read = h .0; text = h .1 }) (λ _. tt)))

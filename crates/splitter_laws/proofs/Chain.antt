@@ -11,7 +11,7 @@ use lib.Dec.{ltb}
 use lib.ListN.{length, take, drop, replicate, length-drop, length-map}
 use lib.Seq.{take-length, drop-drop}
 use Rattle.basis.specs.Reply.{Reply, is, no as refused}
-use Rattle.basis.proofs.Reply.{no-is, All, all-is, all-cond, all-then}
+use Rattle.basis.proofs.Reply.{no-is, All, all-is, all-cond, all-then, all-self}
 use Rattle.builder.specs.Builder.{newOf}
 use Rattle.builder.specs.declared.CommandBuilder.{CommandBuilder}
 use Rattle.builder.specs.declared.ExpectedLen.the-variants.{Ne}
@@ -45,11 +45,6 @@ module _ (c i p q n e m : ℕ) where
       pub chain-is : 10 ≤ m → chainOf c i p q n e m ≡ is (startOf c i p q e m)
       unfolding chainOf
       chain-is h = rw (new-is c i p q n (Ne e) Unsupported k few, le-ltb m 10 h)
-
--- a reply gives what it gives
-all-self : {A : Type 0} (x : Reply A) → All (λ a. x ≡ is a) x
-all-self (is a) = refl
-all-self (refused k) = tt
 
 module _ (c i p q n e m : ℕ) where
   all-made : All (ChainMade c i p q n e m) (chainOf c i p q n e m)

@@ -9,13 +9,13 @@ use lib.ListN.{length, take, drop, length-take, length-drop, length-append}
 use lib.Seq.{take-take, take-length, take-append-le}
 use borrow.Author.Tests.{eqb-true, eqb-false}
 use Rattle.basis.specs.Reply.{Reply, is, then}
-use Rattle.basis.proofs.Reply.{All, all-is, all-cond, all-then, all-weaken, then-same}
+use Rattle.basis.proofs.Reply.{All, all-is, all-cond, all-then, all-weaken, then-same, all-self, all-both}
 use Rattle.tlv.specs.Object.{sizeOf, objectOf}
 use Rattle.tlv.specs.Lookup.{Span, part, whole, seekIn, seek, follow, lookup}
 use Rattle.tlv.specs.declared.Reading.{Reading}
 use Rattle.tlv.proofs.Within.{Lies, seek-within, object-inside, seek-inside, lookup-inside}
 use Rattle.tlv.proofs.Walk.{seek-here, seek-next}
-use Rattle.tlv_laws.proofs.Choice.{by-reply, all-self, all-both}
+use Rattle.tlv_laws.proofs.Choice.{by-reply}
 use Rattle.tlv_laws.proofs.Front.{front-less, front-rest, object-front}
 
 -- a list s′ that has the bytes of s in front, up to a value found at a level, and room for that value

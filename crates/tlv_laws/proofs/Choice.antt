@@ -3,7 +3,6 @@ use Prim.Native.Nat.{ℕ}
 use mathlib.Core.Path.{_≡_, refl}
 use mathlib.Core.Bool.{Bool, true, false, cond, true≢false, false≢true}
 use Rattle.basis.specs.Reply.{Reply, is, no}
-use Rattle.basis.proofs.Reply.{All}
 
 -- either way
 pub by-test : {P : Type 0} (b : Bool) → (b ≡ true → P) → (b ≡ false → P) → P
@@ -35,12 +34,3 @@ second false b e = (refl, e)
 pub not-true-false : (b : Bool) → (b ≡ true → ⊥) → b ≡ false
 not-true-false true h = absurd (h refl)
 not-true-false false h = refl
-
--- a reply is the value that it gives
-pub all-self : {A : Type 0} (x : Reply A) → All (λ a. x ≡ is a) x
-all-self (is a) = refl
-all-self (no k) = tt
-
-pub all-both : {A : Type 0} (P Q : A → Type 0) (x : Reply A) → All P x → All Q x → All (λ a. P a × Q a) x
-all-both P Q (is a) h g = (h, g)
-all-both P Q (no k) h g = tt

@@ -10,7 +10,7 @@ use lib.ListN.{length, getD, take, drop, take-append-drop}
 use borrow.Author.Tests.{ltb-false, leb-true, eqb-true, eqb-false, le-ltb, le-leb, lt-leb, eq-eqb, ne-eqb}
 use Rattle.basis.specs.Differ.{Differ}
 use Rattle.basis.specs.Reply.{is, no as refused}
-use Rattle.basis.proofs.Reply.{All, all-is, all-cond, no-is, then-same}
+use Rattle.basis.proofs.Reply.{All, all-is, all-cond, no-is, then-same, all-self}
 use Rattle.basis.proofs.Truth.{both}
 use Rattle.tlv.specs.Tag.{among, sizeBy, sizeByCrate, sizeByStandard, thirdBy, thirdByCrate, threeBytes, longTag, tagOf}
 use Rattle.tlv.specs.Object.{sizeOf, objectOf}
@@ -19,7 +19,7 @@ use Rattle.tlv.proofs.Among.{inside, below, above}
 use Rattle.tlv.specs.declared.Reading.the-variants.{Crate, Standard}
 use Rattle.tlv_laws.specs.Readings.{partsTwo, partsThree, tagParts, meetsIn, meetsAt, meetsFrom, meets}
 use Rattle.tlv_laws.specs.Value.{ofValue}
-use Rattle.tlv_laws.proofs.Choice.{by-test, by-reply, on-cond, same-cond, neither, not-true-false, all-self}
+use Rattle.tlv_laws.proofs.Choice.{by-test, by-reply, on-cond, same-cond, neither, not-true-false}
 use Rattle.tlv_laws.proofs.Boundary.{walked-none, walked-append, walked-next}
 
 -- the second bytes on which they part: 1E, and from FF on

@@ -11,7 +11,7 @@ use lib.ListN.{length, getD, take, drop, length-take, length-drop}
 use lib.Seq.{getD-take, getD-drop, ext-getD, length-take-le}
 use borrow.Author.Tests.{lt-ltb, ne-eqb}
 use Rattle.basis.specs.Reply.{is, no as refused}
-use Rattle.basis.proofs.Reply.{All, all-is, all-weaken, then-same, no-is}
+use Rattle.basis.proofs.Reply.{All, all-is, all-weaken, then-same, no-is, all-self, all-both}
 use Rattle.tlv.specs.Tag.{tagOf}
 use Rattle.tlv.specs.Object.{Object, sizeOf, objectOf}
 use Rattle.tlv.specs.Lookup.{Span, part, whole, seekIn, seek, follow, lookup}
@@ -21,7 +21,7 @@ use Rattle.basis.specs.Every.{Every}
 use Rattle.basis.proofs.Every.{every-append, every-weaken}
 use Rattle.tlv_laws.specs.Skipped.{valueAt, passedIn, passedAt, passedFrom, passed, lastFrom, lastEntered, past}
 use Rattle.tlv_laws.specs.Skipped.{covers, coveredBy, seenTo, seen}
-use Rattle.tlv_laws.proofs.Choice.{by-test, by-reply, on-cond, same-cond, all-self, all-both}
+use Rattle.tlv_laws.proofs.Choice.{by-test, by-reply, on-cond, same-cond}
 use Rattle.tlv_laws.proofs.Front.{object-front}
 use Rattle.tlv_laws.proofs.Behind.{follow-inside}
 use Rattle.tlv_laws.proofs.Covered.{Before, covers-ahead, covers-behind, uncovered, uncovered-append}
