@@ -22,13 +22,14 @@ Used case2E n e = (n ≡ 0) × (1 ≤ e)
 Used case3E n e = (1 ≤ n) × (e ≡ 0)
 Used case4E n e = (1 ≤ n) × (1 ≤ e)
 
--- what holds of the case of a command, with an Le and no data, and with data: it holds of the short case, where Le, data and mode allow
--- that, and of the extended one, where they do not
+-- what holds of a choice by the mode
 by-mode : (P : Case → Type 0) (m : ExtendedLen) (x y : Case) → ((m ≡ Forced → ⊥) → P x) → (m ≡ Forced → P y) → P (unlessForced m x y)
 by-mode P Unsupported x y h g = h (λ e. let z : _≡_ {A = ℕ} 0 1 = cc in omega arith)
 by-mode P Supported x y h g = h (λ e. let z : _≡_ {A = ℕ} 0 1 = cc in omega arith)
 by-mode P Forced x y h g = g refl
 
+-- What holds of the case that is used for an Le without data, and for data: it holds of the short case, where Le, data and mode allow that,
+-- and of the extended one, where they do not.
 pub by-le : (P : Case → Type 0) (m : ExtendedLen) (e : ℕ) → 1 ≤ e → (e ≤ 256 → (m ≡ Forced → ⊥) → P case2S)
     → ((e ≤ 256 → m ≡ Forced) → P case2E) → P (caseFor m 0 e)
 unfolding caseFor
