@@ -1,11 +1,10 @@
 //! Pieces joined. The Rust has no reassembler: ours is held to a model of document 01, piece after piece, with the whole room and the
 //! record; beside the Rust where `extend_from_command_view` says something of them; and whole lists of commands, cut by the exported
-//! cutter and with pieces between them that are refused, have to come back; so do commands that are cut and joined in one call.
+//! cutter and with pieces between them that are refused, have to come back.
 
 mod extended;
 mod lists;
 mod model;
-mod relay;
 mod steps;
 
 use std::ops::Range;
@@ -239,10 +238,9 @@ pub fn compare(tally: &mut Tally, inputs: &mut Inputs) {
     extended::chains(tally, inputs, some_piece, 0..6_000);
     lists::compare(tally, inputs, 0..700);
     lists::longest(tally, inputs);
-    relay::compare(tally, inputs, 0..12_000);
 }
 
-/// Any sequences, chains beside the Rust, lists of commands, and relays.
+/// Any sequences, chains beside the Rust, and lists of commands.
 pub fn random(tally: &mut Tally, inputs: &mut Inputs) {
     let turns = |inputs: &mut Inputs, several| {
         let first = inputs.below(2_100);
@@ -254,6 +252,4 @@ pub fn random(tally: &mut Tally, inputs: &mut Inputs) {
     extended::chains(tally, inputs, some_piece, some);
     let some = turns(inputs, 1);
     lists::compare(tally, inputs, some);
-    let some = turns(inputs, 16);
-    relay::compare(tally, inputs, some);
 }

@@ -29,7 +29,6 @@ mod builder;
 mod class;
 mod command;
 mod reassembler;
-mod relay;
 mod splitter;
 mod tlv;
 
@@ -43,7 +42,6 @@ pub use command::{
     command, command_data, command_extend, command_owned, COMMAND_NUMBERS, OWNED_NUMBERS,
 };
 pub use reassembler::{joined_data, Reassembler, JOIN_NUMBERS, STATE_NUMBERS};
-pub use relay::{cut_and_join, RELAY_NUMBERS};
 pub use splitter::{should_split, Pieces, BUFFER_LEN, PIECE_NUMBERS, SPLIT_NUMBERS};
 pub use tlv::{
     get_data_object, put_data_object, take_data_object, take_len, take_tag, value, LEN_NUMBERS,

@@ -1,1 +1,0 @@
-// A command that one exported call cuts and joins comes back: see specs/ and proofs/. It has no code.
