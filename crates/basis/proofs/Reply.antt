@@ -17,6 +17,11 @@ apart said back h x y e = sym (h x) ∙ ap back e ∙ h y
 pub told : {A B : Type 0} (said : A → B) {x y : A} {b : B} → said x ≡ b → x ≡ y → b ≡ said y
 told said e f = sym e ∙ ap said f
 
+-- either way
+pub by-reply : {A P : Type 0} (x : Reply A) → ((a : A) → x ≡ is a → P) → ((k : ℕ) → x ≡ no k → P) → P
+by-reply (is a) h g = h a refl
+by-reply (no k) h g = g k refl
+
 -- what holds of whatever a reply gives
 abbrev pub All : {A : Type 0} → (A → Type 0) → Reply A → Type 0
 All P (is a) = P a

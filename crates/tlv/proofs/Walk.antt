@@ -1,4 +1,4 @@
--- The walk of objects, one object and one tag at a time, with no bound. Assumes nothing.
+-- The walk of a record, one object at a time and with no bound; so the search for a tag, and a path. Assumes nothing.
 use Prim.Native.Nat.{ℕ, zero, suc, _+_, _≤_, _<_}
 use mathlib.Core.Path.{_≡_, refl, ap, _∙_}
 use mathlib.Core.Bool.{cond}
@@ -9,53 +9,82 @@ use lib.Dec.{eqb}
 use lib.ListN.{length, getD, drop, length-drop, drop-of-length-le}
 use lib.Seq.{drop-cons}
 use borrow.Author.Tests.{eq-eqb, ne-eqb}
-use Rattle.basis.specs.Reply.{Reply, is, no, then}
-use Rattle.basis.proofs.Reply.{then-same}
+use Rattle.basis.specs.Reply.{Reply, is, no}
+use Rattle.basis.proofs.Reply.{All, by-reply, all-is}
 use Rattle.tlv.specs.Tag.{tagOf}
 use Rattle.tlv.specs.Object.{Object, sizeOf, objectOf}
-use Rattle.tlv.specs.Lookup.{Span, part, seekIn, seek, follow}
+use Rattle.tlv.specs.Walk.{Walk, itemAt, stopped, met, onward, walkIn, walk}
+use Rattle.tlv.specs.Lookup.{Span, part, first, seek, follow}
 use Rattle.tlv.specs.declared.Reading.{Reading}
 use Rattle.tlv.proofs.Within.{Ends, object-within}
 
-module _ (r : Reading) (t : ℕ) where
-  -- what comes of an object: its value, or what the rest gives
-  abbrev met : (List ℕ → ℕ → Reply Span) → ℕ → List ℕ → Object → Reply Span
-  met further a s o =
-      cond (eqb (o .tag) t) (is (record { at = a + o .at; len = o .len })) (further (drop (sizeOf o) s) (a + sizeOf o))
+-- two ways to go on that agree behind every object within the bytes
+onward-same : (a m : ℕ) (f g : Object → Walk) (x : Reply Object) → All (Ends m) x → ((o : Object) → Ends m o → f o ≡ g o)
+    → onward a f x ≡ onward a g x
+onward-same a m f g (is o) h e = ap (met (itemAt a o)) (e o h)
+onward-same a m f g (no k) h e = refl
 
+module _ (r : Reading) where
   -- any bound on the objects that is not below the bytes serves
-  enough : (n m a : ℕ) (s : List ℕ) → length s ≤ n → length s ≤ m → seekIn n r t a s ≡ seekIn m r t a s
-  unfolding seekIn objectOf tagOf
+  enough : (n m a : ℕ) (s : List ℕ) → length s ≤ n → length s ≤ m → walkIn n r a s ≡ walkIn m r a s
+  unfolding walkIn objectOf tagOf
   enough zero zero a s h g = refl
   enough zero (suc m) a [] h g = refl
   enough zero (suc m) a (x ∷ s) h g = absurd (omega arith)
   enough (suc n) zero a [] h g = refl
   enough (suc n) zero a (x ∷ s) h g = absurd (omega arith)
   enough (suc n) (suc m) a s h g =
-      then-same (Ends (length s)) (objectOf r s) _ _ (object-within r s) (λ o w.
-      let rest = drop (sizeOf o) s in
-      ap (λ (x : Reply Span). cond (eqb (o .tag) t) (is (record { at = a + o .at; len = o .len })) x)
-      (enough n m (a + sizeOf o) rest (simp length-drop (omega arith)) (simp length-drop (omega arith))))
+      onward-same a (length s) _ _ (objectOf r s) (object-within r s) (λ o w.
+      enough n m (a + sizeOf o) (drop (sizeOf o) s) (simp length-drop (omega arith)) (simp length-drop (omega arith)))
 
-  pub seek-is : (a : ℕ) (s : List ℕ) → seek r t a s ≡ then (objectOf r s) (met (λ rest b. seek r t b rest) a s)
-  unfolding seek seekIn
-  seek-is a s =
+  -- the walk: an object and what is walked behind it, or the stop
+  pub walk-is : (a : ℕ) (s : List ℕ) → walk r a s ≡ onward a (λ o. walk r (a + sizeOf o) (drop (sizeOf o) s)) (objectOf r s)
+  unfolding walk walkIn
+  walk-is a s =
       enough (length s) (suc (length s)) a s (omega arith) (omega arith)
-      ∙ then-same (Ends (length s)) (objectOf r s) _ _ (object-within r s) (λ o w.
-      let rest = drop (sizeOf o) s in
-      ap (λ (x : Reply Span). cond (eqb (o .tag) t) (is (record { at = a + o .at; len = o .len })) x)
-      (enough (length s) (length rest) (a + sizeOf o) rest (simp length-drop (omega arith)) (omega arith)))
+      ∙ onward-same a (length s) _ _ (objectOf r s) (object-within r s) (λ o w.
+      enough (length s) (length (drop (sizeOf o) s)) (a + sizeOf o) (drop (sizeOf o) s) (simp length-drop (omega arith)) (omega arith))
 
+  pub walk-no : (a : ℕ) (s : List ℕ) (k : ℕ) → objectOf r s ≡ no k → walk r a s ≡ stopped a k
+  walk-no a s k e = rw (walk-is a s, e)
+
+  pub walk-met : (a : ℕ) (s : List ℕ) (o : Object) → objectOf r s ≡ is o
+      → walk r a s ≡ met (itemAt a o) (walk r (a + sizeOf o) (drop (sizeOf o) s))
+  walk-met a s o e = rw (walk-is a s, e)
+
+  -- what holds of bytes where no object is read, and of an object if it holds behind it, holds of all bytes
+  module _ (P : ℕ → List ℕ → Type 0) (none : (a : ℕ) (s : List ℕ) (k : ℕ) → objectOf r s ≡ no k → P a s)
+      (some : (a : ℕ) (s : List ℕ) (o : Object) → objectOf r s ≡ is o → Ends (length s) o
+      → P (a + sizeOf o) (drop (sizeOf o) s) → P a s) where
+    within-bound : (n a : ℕ) (s : List ℕ) → length s ≤ n → P a s
+    unfolding objectOf tagOf
+    within-bound zero a [] h = none a [] 11 refl
+    within-bound zero a (x ∷ s) h = absurd (omega arith)
+    within-bound (suc n) a s h =
+        by-reply (objectOf r s) (λ o e.
+        let w = all-is (Ends (length s)) (objectOf r s) o (object-within r s) e in
+        some a s o e w (within-bound n (a + sizeOf o) (drop (sizeOf o) s) (simp length-drop (omega arith)))) (none a s)
+
+    pub by-objects : (a : ℕ) (s : List ℕ) → P a s
+    by-objects a s = within-bound (length s) a s (omega arith)
+
+module _ (r : Reading) (t : ℕ) where
   -- no object; the object with the tag; another object, which is passed over whole
   pub seek-no : (a : ℕ) (s : List ℕ) (k : ℕ) → objectOf r s ≡ no k → seek r t a s ≡ no k
-  seek-no a s k e = rw (seek-is a s, e)
+  unfolding seek first
+  seek-no a s k e = rw (walk-no r a s k e)
 
   module _ (a : ℕ) (s : List ℕ) (o : Object) (e : objectOf r s ≡ is o) where
+    pub seek-is : seek r t a s
+        ≡ cond (eqb (o .tag) t) (is (record { at = a + o .at; len = o .len })) (seek r t (a + sizeOf o) (drop (sizeOf o) s))
+    unfolding seek first
+    seek-is = rw (walk-met r a s o e)
+
     pub seek-here : o .tag ≡ t → seek r t a s ≡ is (record { at = a + o .at; len = o .len })
-    seek-here h = rw (seek-is a s, e, eq-eqb (o .tag) t h)
+    seek-here h = rw (seek-is, eq-eqb (o .tag) t h)
 
     pub seek-next : (o .tag ≡ t → ⊥) → seek r t a s ≡ seek r t (a + sizeOf o) (drop (sizeOf o) s)
-    seek-next h = rw (seek-is a s, e, ne-eqb (o .tag) t h)
+    seek-next h = rw (seek-is, ne-eqb (o .tag) t h)
 
 -- a path from its tag i on, in a part p of the record: no such object; its value, which is entered; no tag left
 module _ (r : Reading) (s : List ℕ) (p : Span) (path : List ℕ) (i : ℕ) where

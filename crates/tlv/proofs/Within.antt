@@ -1,17 +1,16 @@
 -- What was read lies within the bytes that it was read in. Assumes nothing.
-use Prim.Native.Nat.{ℕ, zero, suc, _+_, _-_, _%_, _≤_}
+use Prim.Native.Nat.{ℕ, _+_, _-_, _%_, _≤_}
 use mathlib.Core.Path.{_≡_}
-use mathlib.Core.List.{List, [], _∷_}
+use mathlib.Core.List.{List}
 use native.Mathlib.Omega.{arith}
 use lib.Dec.{ltb, leb, eqb}
-use lib.ListN.{length, getD, drop, length-drop, length-take}
+use lib.ListN.{length, getD, drop, length-drop}
 use borrow.Author.Tests.{leb-true, ltb-false}
 use Rattle.basis.specs.Reply.{is}
-use Rattle.basis.proofs.Reply.{All, all-is, all-cond, all-then, all-weaken}
+use Rattle.basis.proofs.Reply.{All, all-is, all-cond, all-then}
 use Rattle.tlv.specs.Tag.{Tag, sizeBy, thirdBy, threeBytes, longTag, tagOf}
 use Rattle.tlv.specs.Len.{Len, lenTo82, lenOf}
 use Rattle.tlv.specs.Object.{Object, sizeOf, objectOf}
-use Rattle.tlv.specs.Lookup.{Span, part, whole, seekIn, seek, follow, lookup}
 use Rattle.tlv.specs.declared.Reading.{Reading}
 use Rattle.tlv.specs.declared.Reading.the-variants.{Crate, Standard}
 
@@ -25,13 +24,9 @@ Tagged m t = Some m (t .size)
 abbrev pub Sized : ℕ → Len → Type 0
 Sized m l = Some m (l .size)
 
--- an object has a byte, and ends within m bytes
+-- an object has a byte of tag and one of length, and ends within m bytes
 abbrev pub Ends : ℕ → Object → Type 0
-Ends m o = (1 ≤ o .at) × (sizeOf o ≤ m)
-
--- a part that starts at place a or behind it, and ends at place m or before it
-abbrev pub Lies : ℕ → ℕ → Span → Type 0
-Lies a m p = (a ≤ p .at) × (p .at + p .len ≤ m)
+Ends m o = (2 ≤ o .at) × (sizeOf o ≤ m)
 
 pub tag-within : (r : Reading) (s : List ℕ) → All (Tagged (length s)) (tagOf r s)
 unfolding tagOf longTag threeBytes
@@ -73,46 +68,10 @@ object-within r s =
     all-cond E (leb (l .number) room) _ _
     (λ f. omega (arith, leb-true (l .number) room f, length-drop (t .size) s)) (λ _. tt)))
 
-module _ (r : Reading) (t : ℕ) where
-  walk-within : (n a : ℕ) (s : List ℕ) → All (Lies a (a + length s)) (seekIn n r t a s)
-  unfolding seekIn
-  walk-within zero a s = tt
-  walk-within (suc n) a s =
-      let L = Lies a (a + length s) in
-      all-then L (Ends (length s)) (objectOf r s) _ (object-within r s) (λ o w.
-      let rest = drop (sizeOf o) s in
-      let b = a + sizeOf o in
-      all-cond L (eqb (o .tag) t) _ _ (λ _. omega arith)
-      (λ _. all-weaken L (Lies b (b + length rest)) (seekIn n r t b rest)
-      (λ p l. omega (arith, length-drop (sizeOf o) s)) (walk-within n b rest)))
-
-  -- a value found lies in the bytes that were searched
-  pub seek-within : (a : ℕ) (s : List ℕ) → All (Lies a (a + length s)) (seek r t a s)
-  unfolding seek
-  seek-within a s = walk-within (length s) a s
-
--- so does a value at the end of a path, and it lies in the record
-pub follow-within : (r : Reading) (s : List ℕ) (p : Span) (path : List ℕ) → Lies 0 (length s) p → All (Lies 0 (length s)) (follow r s p path)
-unfolding follow
-follow-within r s p [] h = h
-follow-within r s p (t ∷ path) h =
-    let L = Lies 0 (length s) in
-    all-then L (Lies (p .at) (p .at + length (part s p))) (seek r t (p .at) (part s p)) _ (seek-within r t (p .at) (part s p))
-    (λ q l. follow-within r s q path (omega (arith, l, length-take (p .len) (drop (p .at) s), length-drop (p .at) s)))
-
-pub lookup-within : (r : Reading) (s path : List ℕ) → All (Lies 0 (length s)) (lookup r s path)
-lookup-within r s path = follow-within r s (whole s) path (omega arith)
-
--- the same in plain places: a tag, an object and a value that were read lie in those bytes
+-- the same in plain places: a tag and an object that were read lie in those bytes
 module _ (r : Reading) (s : List ℕ) where
   pub tag-inside : (t : Tag) → tagOf r s ≡ is t → (1 ≤ t .size) × (t .size ≤ length s)
   tag-inside t e = omega (arith, all-is (Tagged (length s)) (tagOf r s) t (tag-within r s) e)
 
-  pub object-inside : (o : Object) → objectOf r s ≡ is o → (1 ≤ o .at) × (o .at + o .len ≤ length s)
+  pub object-inside : (o : Object) → objectOf r s ≡ is o → (2 ≤ o .at) × (o .at + o .len ≤ length s)
   object-inside o e = omega (arith, all-is (Ends (length s)) (objectOf r s) o (object-within r s) e)
-
-  pub seek-inside : (t a : ℕ) (p : Span) → seek r t a s ≡ is p → (a ≤ p .at) × (p .at + p .len ≤ a + length s)
-  seek-inside t a p e = omega (arith, all-is (Lies a (a + length s)) (seek r t a s) p (seek-within r t a s) e)
-
-  pub lookup-inside : (path : List ℕ) (p : Span) → lookup r s path ≡ is p → p .at + p .len ≤ length s
-  lookup-inside path p e = omega (arith, all-is (Lies 0 (length s)) (lookup r s path) p (lookup-within r s path) e)

@@ -1,12 +1,12 @@
 -- The lookup of a path. Document 01, "BER records" (lookup of a path) and "Numbers of refusal" (11, 12).
-use Prim.Native.Nat.{ℕ, zero, suc, _+_, _-_}
+use Prim.Native.Nat.{ℕ, _-_}
 use mathlib.Core.Path.{_≡_}
 use mathlib.Core.Bool.{cond}
 use mathlib.Core.List.{List, [], _∷_}
 use lib.Dec.{eqb}
 use lib.ListN.{length, take, drop}
 use Rattle.basis.specs.Reply.{Reply, is, no, then}
-use Rattle.tlv.specs.Object.{sizeOf, objectOf}
+use Rattle.tlv.specs.Walk.{Item, Stop, walk}
 use Rattle.tlv.specs.declared.Reading.{Reading}
 use Rattle.tlv.specs.declared.lookup.GetDataObject.{GetDataObject}
 use Rattle.tlv.specs.declared.lookup.GetDataObject.the-variants as get
@@ -26,17 +26,18 @@ between a e = record { at = a; len = e - a }
 abbrev pub whole : List ℕ → Span
 whole s = record { at = 0; len = length s }
 
--- the value of the first object with the tag, in bytes s that start at place a of the record: an object is passed over whole;
--- at most n objects are walked
-unfoldable pub seekIn : ℕ → Reading → ℕ → ℕ → List ℕ → Reply Span
-seekIn zero r t a s = no 11
-seekIn (suc n) r t a s =
-    then (objectOf r s) (λ o.
-    cond (eqb (o .tag) t) (is (record { at = a + o .at; len = o .len })) (seekIn n r t (a + sizeOf o) (drop (sizeOf o) s)))
+-- where the value of an object lies
+abbrev pub valueOf : Item → Span
+valueOf i = record { at = i .at; len = i .len }
 
--- no list has more objects than bytes
+-- the value of the first object with the tag among those of a walk; the number of its stop where there is none
+unfoldable pub first : ℕ → List Item → Stop → Reply Span
+first t [] e = no (e .number)
+first t (i ∷ rest) e = cond (eqb (i .tag) t) (is (valueOf i)) (first t rest e)
+
+-- in bytes s that start at place a of the record
 unfoldable pub seek : Reading → ℕ → ℕ → List ℕ → Reply Span
-seek r t a s = seekIn (length s) r t a s
+seek r t a s = first t (walk r a s .items) (walk r a s .stop)
 
 -- from a part of the record, tag by tag: the first object with the tag is entered, and there is no way back
 unfoldable pub follow : Reading → List ℕ → Span → List ℕ → Reply Span

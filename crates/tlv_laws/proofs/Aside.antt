@@ -11,13 +11,14 @@ use lib.ListN.{length, getD, drop, length-drop}
 use lib.Seq.{getD-drop}
 use borrow.Author.Tests.{ltb-true}
 use Rattle.basis.specs.Reply.{is}
+use Rattle.basis.proofs.Reply.{by-reply}
 use Rattle.tlv.specs.Lookup.{Span, lookup, valueIn}
 use Rattle.tlv.specs.declared.Reading.{Reading}
-use Rattle.tlv.proofs.Within.{lookup-inside}
+use Rattle.tlv.proofs.Found.{lookup-inside}
 use Rattle.basis.proofs.Every.{every-weaken}
 use Rattle.tlv_laws.specs.Skipped.{passed, lastEntered, past}
 use Rattle.tlv_laws.specs.Skipped.{covers, coveredBy, behind, aside, refill, seenTo, seen}
-use Rattle.tlv_laws.proofs.Choice.{by-reply, second}
+use Rattle.tlv_laws.proofs.Choice.{second}
 use Rattle.tlv_laws.proofs.Covered.{Before, covers-ahead, covers-behind, uncovered}
 use Rattle.tlv_laws.proofs.Covered.{covered-first, covered-later, length-fill, byte-fill}
 use Rattle.tlv_laws.proofs.Skipped.{take-same, lookup-outside, last-found, to-found, to-refused, unseen}

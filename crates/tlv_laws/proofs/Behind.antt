@@ -1,5 +1,5 @@
 -- What lies behind a match is not seen: document 01, "BER records" (lookup of a path). Assumes nothing.
-use Prim.Native.Nat.{ℕ, zero, suc, _+_, _-_, _≤_}
+use Prim.Native.Nat.{ℕ, _+_, _-_, _≤_}
 use mathlib.Core.Path.{_≡_, refl, sym, ap, _∙_}
 use mathlib.Core.List.{List, [], _∷_, _++_}
 use native.Mathlib.Nat.{zero-add, add-sub-cancel-left}
@@ -9,13 +9,12 @@ use lib.ListN.{length, take, drop, length-take, length-drop, length-append}
 use lib.Seq.{take-take, take-length, take-append-le}
 use borrow.Author.Tests.{eqb-true, eqb-false}
 use Rattle.basis.specs.Reply.{Reply, is, then}
-use Rattle.basis.proofs.Reply.{All, all-is, all-cond, all-then, all-weaken, then-same, all-self, all-both}
-use Rattle.tlv.specs.Object.{sizeOf, objectOf}
-use Rattle.tlv.specs.Lookup.{Span, part, whole, seekIn, seek, follow, lookup}
+use Rattle.basis.proofs.Reply.{All, by-reply, all-is, all-cond, all-then, all-weaken, then-same, all-self, all-both}
+use Rattle.tlv.specs.Object.{sizeOf}
+use Rattle.tlv.specs.Lookup.{Span, part, whole, seek, follow, lookup}
 use Rattle.tlv.specs.declared.Reading.{Reading}
-use Rattle.tlv.proofs.Within.{Lies, seek-within, object-inside, seek-inside, lookup-inside}
-use Rattle.tlv.proofs.Walk.{seek-here, seek-next}
-use Rattle.tlv_laws.proofs.Choice.{by-reply}
+use Rattle.tlv.proofs.Walk.{by-objects, seek-no, seek-is, seek-here, seek-next}
+use Rattle.tlv.proofs.Found.{Lies, seek-within, seek-inside, lookup-inside}
 use Rattle.tlv_laws.proofs.Front.{front-less, front-rest, object-front}
 
 -- a list s′ that has the bytes of s in front, up to a value found at a level, and room for that value
@@ -25,20 +24,17 @@ module _ (r : Reading) (t : ℕ) where
       (a ≤ p .at)
       × ((s′ : List ℕ) → take (p .at - a) s′ ≡ take (p .at - a) s → p .at + p .len ≤ a + length s′ → seek r t a s′ ≡ is p)
 
-  walk-front : (n a : ℕ) (s : List ℕ) → All (Kept a s) (seekIn n r t a s)
-  unfolding seekIn
-  walk-front zero a s = tt
-  walk-front (suc n) a s =
-      all-then (Kept a s) (λ o. objectOf r s ≡ is o) (objectOf r s) _ (all-self (objectOf r s)) (λ o e.
-      let w = object-inside r s o e in
+  level-front : (a : ℕ) (s : List ℕ) → All (Kept a s) (seek r t a s)
+  level-front =
+      by-objects r (λ a s. All (Kept a s) (seek r t a s)) (λ a s k e. rw (seek-no r t a s k e) tt) (λ a s o e w deeper.
       let k = sizeOf o in
-      all-cond (Kept a s) (eqb (o .tag) t) _ _
+      rw (seek-is r t a s o e) (all-cond (Kept a s) (eqb (o .tag) t) _ _
       (λ h. (
         omega arith,
         λ s′ f g.
             seek-here r t a s′ o (object-front r s s′ o e (rw add-sub-cancel-left at f) (omega arith)) (eqb-true (o .tag) t h),
       ))
-      (λ h. all-weaken (Kept a s) (Kept (a + k) (drop k s)) (seekIn n r t (a + k) (drop k s)) (λ p z. (
+      (λ h. all-weaken (Kept a s) (Kept (a + k) (drop k s)) (seek r t (a + k) (drop k s)) (λ p z. (
         omega arith,
         λ s′ f g.
             let first = front-less s s′ (p .at - a) f (o .at) (omega arith) in
@@ -46,12 +42,11 @@ module _ (r : Reading) (t : ℕ) where
             seek-next r t a s′ o (object-front r s s′ o e first (omega arith)) (eqb-false (o .tag) t h)
             ∙ z .1 (drop k s′) rest (simp length-drop (omega arith)),
       ))
-      (walk-front n (a + k) (drop k s))))
+      deeper)))
 
   pub seek-front : (a : ℕ) (s s′ : List ℕ) (p : Span) → seek r t a s ≡ is p → take (p .at - a) s′ ≡ take (p .at - a) s
       → p .at + p .len ≤ a + length s′ → seek r t a s′ ≡ is p
-  unfolding seek
-  seek-front a s s′ p e = all-is (Kept a s) (seek r t a s) p (walk-front (length s) a s) e .1 s′
+  seek-front a s s′ p e = all-is (Kept a s) (seek r t a s) p (level-front a s) e .1 s′
 
 -- a value at the end of a path lies in the part that the path started from
 pub follow-inside : (r : Reading) (s : List ℕ) (p : Span) (path : List ℕ)

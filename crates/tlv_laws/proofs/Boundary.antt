@@ -1,7 +1,8 @@
 -- Bytes in which a tag is refused with 11 are whole objects, none of them with that tag: document 01, "Numbers of refusal" (11).
 -- So a place to which a lookup comes in a list is told by the bytes in front of it. Assumes nothing.
-use Prim.Native.Nat.{ℕ, zero, suc, _+_, _%_, _≤_}
+use Prim.Native.Nat.{ℕ, _+_, _%_, _≤_}
 use mathlib.Core.Path.{_≡_, refl, sym, _∙_, subst}
+use mathlib.Core.Logic.{_⊎_, inl, inr}
 use mathlib.Core.List.{List, [], _∷_, _++_}
 use native.Mathlib.Nat.{add-zero}
 use native.Mathlib.Omega.{arith}
@@ -10,7 +11,7 @@ use lib.ListN.{length, getD, take, drop, length-take, length-drop, length-append
 use lib.Seq.{take-length, take-take, take-append-le, drop-append-le}
 use borrow.Author.Tests.{eqb-true, eqb-false, le-ltb}
 use Rattle.basis.specs.Reply.{Reply, is, no, then}
-use Rattle.basis.proofs.Reply.{no-is}
+use Rattle.basis.proofs.Reply.{by-reply, no-is}
 use Rattle.tlv.specs.Tag.{sizeBy, thirdBy, threeBytes, longTag, tagOf}
 use Rattle.tlv.specs.Len.{lenTo82, lenOf}
 use Rattle.tlv.specs.Object.{Object, sizeOf, objectOf}
@@ -18,8 +19,8 @@ use Rattle.tlv.specs.Lookup.{seek, follow, lookup}
 use Rattle.tlv.specs.declared.Reading.{Reading}
 use Rattle.tlv.specs.declared.Reading.the-variants.{Crate, Standard}
 use Rattle.tlv.proofs.Within.{object-inside}
-use Rattle.tlv.proofs.Walk.{seek-no, seek-here, seek-next}
-use Rattle.tlv_laws.proofs.Choice.{by-test, by-reply, on-cond}
+use Rattle.tlv.proofs.Walk.{by-objects, seek-no, seek-here, seek-next}
+use Rattle.tlv_laws.proofs.Choice.{by-test, on-cond}
 use Rattle.tlv_laws.proofs.Front.{object-front}
 
 -- no refusal but 12
@@ -68,6 +69,11 @@ object-none : (r : Reading) → objectOf r [] ≡ no 11
 unfolding objectOf tagOf
 object-none r = refl
 
+pub refused-where : (r : Reading) (s : List ℕ) (k : ℕ) → objectOf r s ≡ no k
+    → ((k ≡ 11) × (length s ≡ 0)) ⊎ ((k ≡ 12) × (1 ≤ length s))
+refused-where r [] k e = let z : k ≡ 11 = cc (object-none r) in inl (z, refl)
+refused-where r (b ∷ s) k e = inr (subst Only12 e (object-only r (b ∷ s) (omega arith)), omega arith)
+
 pub object-end : (r : Reading) (s : List ℕ) → objectOf r s ≡ no 11 → s ≡ []
 object-end r [] e = refl
 object-end r (b ∷ s) e = absurd (omega (arith, subst Only12 e (object-only r (b ∷ s) (omega arith))))
@@ -76,22 +82,14 @@ object-end r (b ∷ s) e = absurd (omega (arith, subst Only12 e (object-only r (
 module _ (r : Reading) (t : ℕ) (P : ℕ → List ℕ → Type 0) (none : (a : ℕ) → P a [])
     (more : (a : ℕ) (x : List ℕ) (o : Object) → objectOf r x ≡ is o → (o .tag ≡ t → ⊥)
     → P (a + sizeOf o) (drop (sizeOf o) x) → P a x) where
-  along-few : (n a : ℕ) (x : List ℕ) → length x ≤ n → seek r t a x ≡ no 11 → P a x
-  along-few zero a [] h e = none a
-  along-few zero a (b ∷ x) h e = absurd (omega arith)
-  along-few (suc n) a x h e =
-      by-reply (objectOf r x) (λ o q.
-      let w = object-inside r x o q in
+  pub along : (a : ℕ) (x : List ℕ) → seek r t a x ≡ no 11 → P a x
+  along =
+      by-objects r (λ a x. seek r t a x ≡ no 11 → P a x)
+      (λ a x k q e. let z : k ≡ 11 = cc (seek-no r t a x k q) in rw (object-end r x (rw z at q)) (none a))
+      (λ a x o q _ further e.
       by-test (eqb (o .tag) t) (λ g. absurd (no-is 11 _ (sym e ∙ seek-here r t a x o q (eqb-true (o .tag) t g)))) (λ g.
       let other = eqb-false (o .tag) t g in
-      more a x o q other (along-few n (a + sizeOf o) (drop (sizeOf o) x) (simp length-drop (omega arith))
-      (sym (seek-next r t a x o q other) ∙ e))))
-      (λ k q.
-      let z : k ≡ 11 = cc (seek-no r t a x k q) in
-      rw (object-end r x (rw z at q)) (none a))
-
-  pub along : (a : ℕ) (x : List ℕ) → seek r t a x ≡ no 11 → P a x
-  along a x e = along-few (length x) a x (omega arith) e
+      more a x o q other (further (sym (seek-next r t a x o q other) ∙ e))))
 
 module _ (r : Reading) (t : ℕ) where
   pub one-level : (x : List ℕ) → lookup r x (t ∷ []) ≡ seek r t 0 x

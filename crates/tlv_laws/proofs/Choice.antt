@@ -1,17 +1,11 @@
--- Laws of truth values and replies. Assumes nothing.
-use Prim.Native.Nat.{ℕ}
+-- Laws of truth values. Assumes nothing.
 use mathlib.Core.Path.{_≡_, refl}
 use mathlib.Core.Bool.{Bool, true, false, cond, true≢false, false≢true}
-use Rattle.basis.specs.Reply.{Reply, is, no}
 
 -- either way
 pub by-test : {P : Type 0} (b : Bool) → (b ≡ true → P) → (b ≡ false → P) → P
 by-test true h g = h refl
 by-test false h g = g refl
-
-pub by-reply : {A P : Type 0} (x : Reply A) → ((a : A) → x ≡ is a → P) → ((k : ℕ) → x ≡ no k → P) → P
-by-reply (is a) h g = h a refl
-by-reply (no k) h g = g k refl
 
 pub on-cond : {A : Type 0} (P : A → Type 0) (b : Bool) (x y : A) → (b ≡ true → P x) → (b ≡ false → P y) → P (cond b x y)
 on-cond P true x y h g = h refl

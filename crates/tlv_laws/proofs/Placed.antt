@@ -11,14 +11,14 @@ use lib.ListN.{length, getD, take, drop, length-take, length-drop, length-append
 use lib.Seq.{getD-take, getD-drop, getD-append-add, length-take-le, take-append-le, drop-append-le}
 use Rattle.basis.specs.Reply.{is, no as refused}
 use Rattle.basis.specs.Part.{put}
-use Rattle.basis.proofs.Reply.{no-is}
+use Rattle.basis.proofs.Reply.{by-reply, no-is}
 use Rattle.basis.proofs.Part.{length-put}
 use Rattle.tlv.specs.Object.{Object, sizeOf, objectOf}
 use Rattle.tlv.specs.Lookup.{Span, part, whole, seek, follow, lookup, valueIn}
 use Rattle.tlv.specs.declared.Reading.{Reading}
-use Rattle.tlv.proofs.Within.{object-inside, lookup-inside}
+use Rattle.tlv.proofs.Within.{object-inside}
+use Rattle.tlv.proofs.Found.{lookup-inside}
 use Rattle.tlv_laws.specs.Skipped.{passedAt, passed, lastEntered, coveredBy, aside, refill}
-use Rattle.tlv_laws.proofs.Choice.{by-reply}
 use Rattle.tlv_laws.proofs.Front.{object-front}
 use Rattle.tlv_laws.proofs.Behind.{follow-append}
 use Rattle.tlv_laws.proofs.Boundary.{along, walked-at}

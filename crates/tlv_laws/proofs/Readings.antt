@@ -1,5 +1,5 @@
 -- On exactly which tags the crate's and the standard reading part, and that nothing else does. Assumes nothing.
-use Prim.Native.Nat.{ℕ, zero, suc, _+_, _*_, _%_, _≤_, _<_}
+use Prim.Native.Nat.{ℕ, _+_, _*_, _%_, _≤_, _<_}
 use mathlib.Core.Path.{_≡_, refl, sym, ap, _∙_}
 use mathlib.Core.Bool.{Bool, true, false, cond, true≢false, false≢true}
 use mathlib.Core.List.{List, [], _∷_, _++_, append-assoc}
@@ -7,19 +7,22 @@ use native.Mathlib.Omega.{arith}
 use native.Mathlib.Decide.{decLt, decLe}
 use lib.Dec.{ltb, leb, eqb}
 use lib.ListN.{length, getD, take, drop, take-append-drop}
+use lib.Seq.{drop-drop}
 use borrow.Author.Tests.{ltb-false, leb-true, eqb-true, eqb-false, le-ltb, le-leb, lt-leb, eq-eqb, ne-eqb}
 use Rattle.basis.specs.Differ.{Differ}
 use Rattle.basis.specs.Reply.{is, no as refused}
-use Rattle.basis.proofs.Reply.{All, all-is, all-cond, no-is, then-same, all-self}
+use Rattle.basis.proofs.Reply.{All, by-reply, all-is, all-cond, no-is, then-same, all-self}
 use Rattle.basis.proofs.Truth.{both}
 use Rattle.tlv.specs.Tag.{among, sizeBy, sizeByCrate, sizeByStandard, thirdBy, thirdByCrate, threeBytes, longTag, tagOf}
 use Rattle.tlv.specs.Object.{sizeOf, objectOf}
-use Rattle.tlv.specs.Lookup.{Span, part, whole, seekIn, seek, follow, lookup}
+use Rattle.tlv.specs.Walk.{walk}
+use Rattle.tlv.specs.Lookup.{Span, part, whole, seek, follow, lookup}
 use Rattle.tlv.proofs.Among.{inside, below, above}
+use Rattle.tlv.proofs.Walk.{walk-no, walk-met, by-objects, seek-no, seek-is}
 use Rattle.tlv.specs.declared.Reading.the-variants.{Crate, Standard}
-use Rattle.tlv_laws.specs.Readings.{partsTwo, partsThree, tagParts, meetsIn, meetsAt, meetsFrom, meets}
+use Rattle.tlv_laws.specs.Readings.{partsTwo, partsThree, tagParts, meetsOf, meetsAt, meetsFrom, meets}
 use Rattle.tlv_laws.specs.Value.{ofValue}
-use Rattle.tlv_laws.proofs.Choice.{by-test, by-reply, on-cond, same-cond, neither, not-true-false}
+use Rattle.tlv_laws.proofs.Choice.{by-test, on-cond, same-cond, neither, not-true-false}
 use Rattle.tlv_laws.proofs.Boundary.{walked-none, walked-append, walked-next}
 
 -- the second bytes on which they part: 1E, and from FF on
@@ -217,48 +220,59 @@ module _ (s : List ℕ) where
   unfolding objectOf
   objects-alike e = rw (tags-alike e)
 
--- where none of those tags is met the readings look up alike
-walk-alike : (n t a : ℕ) (s : List ℕ) → meetsIn n t s ≡ false → seekIn n Crate t a s ≡ seekIn n Standard t a s
-unfolding meetsIn seekIn
-walk-alike zero t a s e = refl
-walk-alike (suc n) t a s e =
-    let m = neither (tagParts s) _ e in
-    rw (← objects-alike s (m .0))
-    (then-same (λ o. objectOf Crate s ≡ is o) (objectOf Crate s) _ _ (all-self (objectOf Crate s)) (λ o q.
-    same-cond (eqb (o .tag) t) _ _ _ _ (λ _. refl) (λ h.
-    walk-alike n t (a + sizeOf o) (drop (sizeOf o) s) (rw (q, h) at (m .1)))))
+-- one level, walked from place a of bytes l on: what is met at its first object, and at its stop
+module _ (t : ℕ) (l : List ℕ) where
+  abbrev Met : ℕ → List ℕ → Bool
+  Met a s = meetsOf l t (walk Crate a s .items) (walk Crate a s .stop)
 
-seek-alike : (t a : ℕ) (s : List ℕ) → meetsAt t s ≡ false → seek Crate t a s ≡ seek Standard t a s
-unfolding meetsAt seek
-seek-alike t a s = walk-alike (length s) t a s
+  -- where none of those tags is met the readings look up alike
+  abbrev Alike : ℕ → List ℕ → Type 0
+  Alike a s = (b : ℕ) → drop a l ≡ s → Met a s ≡ false → seek Crate t b s ≡ seek Standard t b s
+
+  level-alike : (a : ℕ) (s : List ℕ) → Alike a s
+  unfolding meetsOf
+  level-alike =
+      by-objects Crate Alike
+      (λ a s k e b d m.
+      let same = objects-alike s (rw (walk-no Crate a s k e, d) at m) in
+      seek-no Crate t b s k e ∙ sym (seek-no Standard t b s k (sym same ∙ e)))
+      (λ a s o e w deeper b d m.
+      let n = neither (tagParts s) _ (rw (walk-met Crate a s o e, d) at m) in
+      let same = objects-alike s (n .0) in
+      rw (seek-is Crate t b s o e, seek-is Standard t b s o (sym same ∙ e))
+      (same-cond (eqb (o .tag) t) _ _ _ _ (λ _. refl) (λ h.
+      deeper (b + sizeOf o) (sym (drop-drop (sizeOf o) a l) ∙ ap (drop (sizeOf o)) d) (rw h at (n .1)))))
+
+  -- none is met where none stands behind whole objects without the tag (in which the tag is refused with 11)
+  abbrev None : ℕ → List ℕ → Type 0
+  None a s =
+      drop a l ≡ s → ((x y : List ℕ) → s ≡ x ++ y → lookup Crate x (t ∷ []) ≡ refused 11 → tagParts y ≡ false) → Met a s ≡ false
+
+  level-none : (a : ℕ) (s : List ℕ) → None a s
+  unfolding meetsOf
+  level-none =
+      by-objects Crate None
+      (λ a s k e d h. rw (walk-no Crate a s k e, d) (h [] s refl (walked-none Crate t)))
+      (λ a s o e w deeper d h.
+      let k = sizeOf o in
+      rw (walk-met Crate a s o e, d, h [] s refl (walked-none Crate t))
+      (by-test (eqb (o .tag) t) (λ g. rw g) (λ g.
+      rw g (deeper (sym (drop-drop k a l) ∙ ap (drop k) d) (λ x y q z.
+      h (take k s ++ x) y (sym (take-append-drop k s) ∙ rw (q, append-assoc))
+      (walked-append Crate t (take k s) x (walked-next Crate t [] s o (walked-none Crate t) e (eqb-false (o .tag) t g)) z))))))
 
 follow-alike : (s : List ℕ) (p : Span) (path : List ℕ) → meetsFrom s p path ≡ false
     → follow Crate s p path ≡ follow Standard s p path
-unfolding meetsFrom follow
+unfolding meetsFrom meetsAt follow
 follow-alike s p [] e = refl
 follow-alike s p (t ∷ path) e =
     let x = seek Crate t (p .at) (part s p) in
     let m = neither (meetsAt t (part s p)) (ofValue x false (λ q. meetsFrom s q path)) e in
-    rw (← seek-alike t (p .at) (part s p) (m .0))
+    rw (← level-alike t (part s p) 0 (part s p) (p .at) refl (m .0))
     (then-same (λ q. x ≡ is q) x _ _ (all-self x) (λ q h. follow-alike s q path (rw h at (m .1))))
 
 pub lookups-alike : (s path : List ℕ) → meets s path ≡ false → lookup Crate s path ≡ lookup Standard s path
 lookups-alike s path = follow-alike s (whole s) path
-
--- none is met at a level where none stands behind whole objects without the tag (in which the tag is refused with 11)
-level-none : (t n : ℕ) (s : List ℕ)
-    → ((x y : List ℕ) → s ≡ x ++ y → lookup Crate x (t ∷ []) ≡ refused 11 → tagParts y ≡ false) → meetsIn n t s ≡ false
-unfolding meetsIn
-level-none t zero s h = refl
-level-none t (suc n) s h =
-    rw (h [] s refl (walked-none Crate t))
-    (by-reply (objectOf Crate s) (λ o e.
-    let k = sizeOf o in
-    rw e (by-test (eqb (o .tag) t) (λ g. rw g) (λ g.
-    rw g (level-none t n (drop k s) (λ x y q w.
-    h (take k s ++ x) y (sym (take-append-drop k s) ∙ rw (q, append-assoc))
-    (walked-append Crate t (take k s) x (walked-next Crate t [] s o (walked-none Crate t) e (eqb-false (o .tag) t g)) w))))))
-    (λ k e. rw e))
 
 path-none : (s : List ℕ) (p : Span) (path : List ℕ)
     → ((front rest : List ℕ) (t : ℕ) (q : Span) (x y : List ℕ) → path ≡ front ++ (t ∷ rest) → follow Crate s p front ≡ is q
@@ -267,7 +281,7 @@ path-none : (s : List ℕ) (p : Span) (path : List ℕ)
 unfolding meetsFrom meetsAt follow
 path-none s p [] h = refl
 path-none s p (t ∷ path) h =
-    rw (level-none t (length (part s p)) (part s p) (λ x y. h [] path t p x y refl refl))
+    rw (level-none t (part s p) 0 (part s p) refl (λ x y. h [] path t p x y refl refl))
     (by-reply (seek Crate t (p .at) (part s p)) (λ q e.
     rw e (path-none s q path (λ front rest u m x y parts entered.
     h (t ∷ front) rest u m x y (ap (λ (l : List ℕ). t ∷ l) parts) (rw e entered))))

@@ -1,8 +1,8 @@
 -- A lookup does not see the values that it passes over, nor what lies behind the part that it enters last, and finds nothing there:
 -- document 01, "BER records". Assumes nothing.
-use Prim.Native.Nat.{ℕ, zero, suc, _+_, _≤_, _<_}
+use Prim.Native.Nat.{ℕ, _+_, _≤_, _<_}
 use mathlib.Core.Path.{_≡_, refl, sym, ap, _∙_}
-use mathlib.Core.Bool.{true, false}
+use mathlib.Core.Bool.{true, false, cond}
 use mathlib.Core.List.{List, [], _∷_, _++_, append-nil}
 use native.Mathlib.Nat.{add-assoc}
 use native.Mathlib.Omega.{arith}
@@ -11,56 +11,37 @@ use lib.ListN.{length, getD, take, drop, length-take, length-drop}
 use lib.Seq.{getD-take, getD-drop, ext-getD, length-take-le}
 use borrow.Author.Tests.{lt-ltb, ne-eqb}
 use Rattle.basis.specs.Reply.{is, no as refused}
-use Rattle.basis.proofs.Reply.{All, all-is, all-weaken, then-same, no-is, all-self, all-both}
-use Rattle.tlv.specs.Tag.{tagOf}
+use Rattle.basis.proofs.Reply.{All, by-reply, all-is, all-cond, all-weaken, then-same, no-is, all-self, all-both}
 use Rattle.tlv.specs.Object.{Object, sizeOf, objectOf}
-use Rattle.tlv.specs.Lookup.{Span, part, whole, seekIn, seek, follow, lookup}
+use Rattle.tlv.specs.Lookup.{Span, part, whole, seek, follow, lookup}
 use Rattle.tlv.specs.declared.Reading.{Reading}
-use Rattle.tlv.proofs.Within.{Lies, object-inside, seek-inside}
+use Rattle.tlv.proofs.Walk.{walk-no, walk-met, by-objects, seek-no, seek-is}
+use Rattle.tlv.proofs.Found.{Lies, seek-inside}
 use Rattle.basis.specs.Every.{Every}
 use Rattle.basis.proofs.Every.{every-append, every-weaken}
-use Rattle.tlv_laws.specs.Skipped.{valueAt, passedIn, passedAt, passedFrom, passed, lastFrom, lastEntered, past}
+use Rattle.tlv_laws.specs.Skipped.{passedOf, passedAt, passedFrom, passed, lastFrom, lastEntered, past}
 use Rattle.tlv_laws.specs.Skipped.{covers, coveredBy, seenTo, seen}
-use Rattle.tlv_laws.proofs.Choice.{by-test, by-reply, on-cond, same-cond}
+use Rattle.tlv_laws.proofs.Choice.{by-test, on-cond, same-cond}
 use Rattle.tlv_laws.proofs.Front.{object-front}
 use Rattle.tlv_laws.proofs.Behind.{follow-inside}
 use Rattle.tlv_laws.proofs.Covered.{Before, covers-ahead, covers-behind, uncovered, uncovered-append}
 use Rattle.tlv_laws.proofs.Covered.{covered-left, covered-right, covered-before}
 
--- the place and the length of a value, as the object tells them
-value-place : (a : ℕ) (o : Object) → valueAt a o ≡ record { at = a + o .at; len = o .len }
-value-place a o =
-    let place : valueAt a o .at ≡ a + o .at = omega arith in
-    let size : valueAt a o .len ≡ o .len = omega arith in
-    λ i. record { at = place i; len = size i }
-
 module _ (r : Reading) (t : ℕ) where
-  -- any bound on the objects that is not below the bytes serves
-  enough : (n m a : ℕ) (s : List ℕ) → length s ≤ n → length s ≤ m → passedIn n r t a s ≡ passedIn m r t a s
-  unfolding passedIn objectOf tagOf
-  enough zero zero a s h g = refl
-  enough zero (suc m) a [] h g = refl
-  enough zero (suc m) a (x ∷ s) h g = absurd (omega arith)
-  enough (suc n) zero a [] h g = refl
-  enough (suc n) zero a (x ∷ s) h g = absurd (omega arith)
-  enough (suc n) (suc m) a s h g =
-      by-reply (objectOf r s) (λ o e.
-      let w = object-inside r s o e in
-      let k = sizeOf o in
-      rw e (same-cond (eqb (o .tag) t) _ _ _ _ (λ _. refl) (λ _. ap (λ (qs : List Span). valueAt a o ∷ qs)
-      (enough n m (a + k) (drop k s) (simp length-drop (omega arith)) (simp length-drop (omega arith))))))
-      (λ k e. rw e)
+  passed-no : (a : ℕ) (s : List ℕ) (k : ℕ) → objectOf r s ≡ refused k → passedAt r t a s ≡ []
+  unfolding passedAt passedOf
+  passed-no a s k e = rw (walk-no r a s k e)
 
-  -- the value of an object with another tag, by its place and length, is one of those passed over
-  pub passed-next : (a : ℕ) (s : List ℕ) (o : Object) → objectOf r s ≡ is o → (o .tag ≡ t → ⊥)
-      → passedAt r t a s ≡ record { at = a + o .at; len = o .len } ∷ passedAt r t (a + (o .at + o .len)) (drop (o .at + o .len) s)
-  unfolding passedAt passedIn
-  passed-next a s o e h =
-      let w = object-inside r s o e in
-      let k = sizeOf o in
-      let rest = enough (length s) (length (drop k s)) (a + k) (drop k s) (simp length-drop (omega arith)) (omega arith) in
-      enough (length s) (suc (length s)) a s (omega arith) (omega arith)
-      ∙ rw (e, ne-eqb (o .tag) t h) (λ i. value-place a o i ∷ rest i)
+  module _ (a : ℕ) (s : List ℕ) (o : Object) (e : objectOf r s ≡ is o) where
+    passed-is : passedAt r t a s
+        ≡ cond (eqb (o .tag) t) [] (record { at = a + o .at; len = o .len } ∷ passedAt r t (a + sizeOf o) (drop (sizeOf o) s))
+    unfolding passedAt passedOf
+    passed-is = rw (walk-met r a s o e)
+
+    -- the value of an object with another tag, by its place and length, is one of those passed over
+    pub passed-next : (o .tag ≡ t → ⊥)
+        → passedAt r t a s ≡ record { at = a + o .at; len = o .len } ∷ passedAt r t (a + (o .at + o .len)) (drop (o .at + o .len) s)
+    passed-next h = rw (passed-is, ne-eqb (o .tag) t h)
 
 -- two lists with one byte at each of the first k places
 pub take-same : (k : ℕ) (s s′ : List ℕ) → k ≤ length s → k ≤ length s′ → ((i : ℕ) → i < k → getD s i 0 ≡ getD s′ i 0)
@@ -73,94 +54,82 @@ take-same k s s′ h g same =
 
 module _ (r : Reading) (t : ℕ) where
   -- at one level: what is passed over lies in the bytes searched, and before the value found
-  passed-within : (n a : ℕ) (s : List ℕ) → Every (Lies a (a + length s)) (passedIn n r t a s)
-  unfolding passedIn
-  passed-within zero a s = tt
-  passed-within (suc n) a s =
-      by-reply (objectOf r s) (λ o e.
-      let w = object-inside r s o e in
+  passed-within : (a : ℕ) (s : List ℕ) → Every (Lies a (a + length s)) (passedAt r t a s)
+  passed-within =
+      by-objects r (λ a s. Every (Lies a (a + length s)) (passedAt r t a s)) (λ a s k e. rw (passed-no r t a s k e) tt)
+      (λ a s o e w deeper.
+      let L = Lies a (a + length s) in
       let k = sizeOf o in
-      rw e (on-cond (Every (Lies a (a + length s))) (eqb (o .tag) t) _ _ (λ _. tt) (λ _. (
+      rw (passed-is r t a s o e) (on-cond (Every L) (eqb (o .tag) t) _ _ (λ _. tt) (λ _. (
         omega arith,
-        every-weaken (Lies a (a + length s)) (Lies (a + k) (a + k + length (drop k s))) (passedIn n r t (a + k) (drop k s))
-            (λ q l. omega (arith, length-drop k s)) (passed-within n (a + k) (drop k s)),
+        every-weaken L (Lies (a + k) (a + k + length (drop k s))) (passedAt r t (a + k) (drop k s))
+            (λ q l. omega (arith, length-drop k s)) deeper,
       ))))
-      (λ k e. rw e tt)
 
-  passed-before : (n a : ℕ) (s : List ℕ) → All (λ p. (a ≤ p .at) × Every (Before p) (passedIn n r t a s)) (seekIn n r t a s)
-  unfolding passedIn seekIn
-  passed-before zero a s = tt
-  passed-before (suc n) a s =
-      by-reply (objectOf r s) (λ o e.
-      let w = object-inside r s o e in
-      let k = sizeOf o in
-      let P : Span → Type 0 = λ p. (a + k ≤ p .at) × Every (Before p) (passedIn n r t (a + k) (drop k s)) in
-      rw e (by-test (eqb (o .tag) t) (λ h. rw h (omega arith)) (λ h.
-      rw h (all-weaken _ P (seekIn n r t (a + k) (drop k s)) (λ p f. (omega arith, (omega arith, f .1)))
-      (passed-before n (a + k) (drop k s))))))
-      (λ k e. rw e tt)
+  abbrev Ahead : ℕ → List ℕ → Span → Type 0
+  Ahead a s p = (a ≤ p .at) × Every (Before p) (passedAt r t a s)
 
-  level-within : (a : ℕ) (s : List ℕ) → Every (Lies a (a + length s)) (passedAt r t a s)
-  unfolding passedAt
-  level-within a s = passed-within (length s) a s
+  passed-before : (a : ℕ) (s : List ℕ) → All (Ahead a s) (seek r t a s)
+  passed-before =
+      by-objects r (λ a s. All (Ahead a s) (seek r t a s)) (λ a s k e. rw (seek-no r t a s k e) tt) (λ a s o e w deeper.
+      let b = a + sizeOf o in
+      let rest = drop (sizeOf o) s in
+      rw (seek-is r t a s o e) (all-cond (Ahead a s) (eqb (o .tag) t) _ _
+      (λ h. (omega arith, rw (passed-is r t a s o e, h) tt))
+      (λ h. all-weaken (Ahead a s) (Ahead b rest) (seek r t b rest)
+      (λ p f. (omega arith, rw (passed-is r t a s o e, h) (omega arith, f .1))) deeper)))
 
   level-before : (a : ℕ) (s : List ℕ) (p : Span) → seek r t a s ≡ is p → Every (Before p) (passedAt r t a s)
-  unfolding passedAt seek
-  level-before a s p e =
-      all-is (λ p. (a ≤ p .at) × Every (Before p) (passedIn (length s) r t a s)) (seek r t a s) p
-      (passed-before (length s) a s) e .1
+  level-before a s p e = all-is (Ahead a s) (seek r t a s) p (passed-before a s) e .1
 
   -- a place that this level looks at: outside of what is passed over, and before the value found
-  abbrev Looked : ℕ → ℕ → List ℕ → ℕ → Type 0
-  Looked n a s i = (coveredBy (passedIn n r t a s) i ≡ false) × All (λ p. i < p .at) (seekIn n r t a s)
+  abbrev Looked : ℕ → List ℕ → ℕ → Type 0
+  Looked a s i = (coveredBy (passedAt r t a s) i ≡ false) × All (λ p. i < p .at) (seek r t a s)
 
   -- it looks at a front that is no object, at an object's tag and length, and at what it looks at further on
-  looked-no : (n a : ℕ) (s : List ℕ) (k i : ℕ) → objectOf r s ≡ refused k → Looked (suc n) a s i
-  unfolding seekIn passedIn coveredBy
-  looked-no n a s k i e = rw e (refl, tt)
+  looked-no : (a : ℕ) (s : List ℕ) (k i : ℕ) → objectOf r s ≡ refused k → Looked a s i
+  unfolding coveredBy
+  looked-no a s k i e = rw (passed-no r t a s k e, seek-no r t a s k e) (refl, tt)
 
-  module _ (n a : ℕ) (s : List ℕ) (o : Object) (i : ℕ) (e : objectOf r s ≡ is o) where
-    looked-head : i < a + o .at → Looked (suc n) a s i
-    unfolding seekIn passedIn coveredBy
+  module _ (a : ℕ) (s : List ℕ) (o : Object) (i : ℕ) (e : objectOf r s ≡ is o) where
+    looked-head : i < a + o .at → Looked a s i
+    unfolding coveredBy
     looked-head h =
-        let k = sizeOf o in
-        let d = drop k s in
-        let rest = passedIn n r t (a + k) d in
-        rw e (by-test (eqb (o .tag) t) (λ g. rw g (refl, h)) (λ g.
-        rw (g, covers-ahead (valueAt a o) i h) (
-          uncovered rest i (every-weaken (λ q. covers q i ≡ false) (Lies (a + k) (a + k + length d)) rest
-              (λ q l. covers-ahead q i (omega arith)) (passed-within n (a + k) d)),
-          all-weaken (λ p. i < p .at) (λ p. (a + k ≤ p .at) × Every (Before p) rest) (seekIn n r t (a + k) d)
-              (λ p f. omega arith) (passed-before n (a + k) d),
+        let b = a + sizeOf o in
+        let d = drop (sizeOf o) s in
+        let rest = passedAt r t b d in
+        rw (passed-is r t a s o e, seek-is r t a s o e) (by-test (eqb (o .tag) t) (λ g. rw g (refl, h)) (λ g.
+        rw (g, covers-ahead (record { at = a + o .at; len = o .len }) i h) (
+          uncovered rest i (every-weaken (λ q. covers q i ≡ false) (Lies b (b + length d)) rest
+              (λ q l. covers-ahead q i (omega arith)) (passed-within b d)),
+          all-weaken (λ p. i < p .at) (Ahead b d) (seek r t b d) (λ p f. omega arith) (passed-before b d),
         )))
 
-    looked-rest : eqb (o .tag) t ≡ false → a + sizeOf o ≤ i → Looked n (a + sizeOf o) (drop (sizeOf o) s) i → Looked (suc n) a s i
-    unfolding seekIn passedIn coveredBy
-    looked-rest g h l = rw (e, g, covers-behind (valueAt a o) i (omega arith)) l
+    looked-rest : eqb (o .tag) t ≡ false → a + sizeOf o ≤ i → Looked (a + sizeOf o) (drop (sizeOf o) s) i → Looked a s i
+    unfolding coveredBy
+    looked-rest g h l =
+        rw (passed-is r t a s o e, seek-is r t a s o e, g, covers-behind (record { at = a + o .at; len = o .len }) i (omega arith)) l
 
   -- bytes that agree wherever this level looks
-  level-unseen : (n a : ℕ) (s s′ : List ℕ) → length s′ ≡ length s
-      → ((i : ℕ) → i < length s → Looked n a s (a + i) → getD s′ i 0 ≡ getD s i 0) → seekIn n r t a s′ ≡ seekIn n r t a s
-  unfolding seekIn
-  level-unseen zero a s s′ long same = refl
-  level-unseen (suc n) a s s′ long same =
-      by-reply (objectOf r s) (λ o e.
-      let w = object-inside r s o e in
+  abbrev Unseen : ℕ → List ℕ → Type 0
+  Unseen a s =
+      (s′ : List ℕ) → length s′ ≡ length s → ((i : ℕ) → i < length s → Looked a s (a + i) → getD s′ i 0 ≡ getD s i 0)
+      → seek r t a s′ ≡ seek r t a s
+
+  seek-unseen : (a : ℕ) (s : List ℕ) → Unseen a s
+  seek-unseen =
+      by-objects r Unseen
+      (λ a s k e s′ long same. ap (seek r t a) (ext-getD 0 s′ s long (λ i h. same i (omega arith) (looked-no a s k (a + i) e))))
+      (λ a s o e w deeper s′ long same.
       let k = sizeOf o in
       let head : take (o .at) s′ ≡ take (o .at) s = take-same (o .at) s′ s (omega arith) (omega arith) (λ i h.
-      same i (omega arith) (looked-head n a s o (a + i) e (omega arith))) in
-      rw (object-front r s s′ o e head (omega arith), e)
+      same i (omega arith) (looked-head a s o (a + i) e (omega arith))) in
+      rw (seek-is r t a s′ o (object-front r s s′ o e head (omega arith)), seek-is r t a s o e)
       (same-cond (eqb (o .tag) t) _ _ _ _ (λ _. refl) (λ g.
-      level-unseen n (a + k) (drop k s) (drop k s′) (simp length-drop (omega arith)) (λ i h l.
+      deeper (drop k s′) (simp length-drop (omega arith)) (λ i h l.
       let below : k + i < length s = omega (arith, length-drop k s) in
-      getD-drop k s′ i 0 ∙ same (k + i) below (looked-rest n a s o (a + (k + i)) e g (omega arith) (rw add-assoc at l))
+      getD-drop k s′ i 0 ∙ same (k + i) below (looked-rest a s o (a + (k + i)) e g (omega arith) (rw add-assoc at l))
       ∙ sym (getD-drop k s i 0)))))
-      (λ k e. ap (seekIn (suc n) r t a) (ext-getD 0 s′ s long (λ i h. same i (omega arith) (looked-no n a s k (a + i) e))))
-
-  seek-unseen : (a : ℕ) (s s′ : List ℕ) → length s′ ≡ length s
-      → ((i : ℕ) → i < length s → Looked (length s) a s (a + i) → getD s′ i 0 ≡ getD s i 0) → seek r t a s′ ≡ seek r t a s
-  unfolding seek
-  seek-unseen a s s′ long same = rw long (level-unseen (length s) a s s′ long same)
 
 -- along a path: an empty one passes over nothing; where the first tag is found, the values of its level are passed over and those
 -- that the rest of the path passes over from the value found on; where it is refused, the values of its level
@@ -187,7 +156,7 @@ passed-from r s p (t ∷ path) =
     let b = part s p in
     let F : Span → Type 0 = λ q. p .at ≤ q .at in
     let here = passedAt r t (p .at) b in
-    let level : Every F here = every-weaken F (Lies (p .at) (p .at + length b)) here (λ q l. l .0) (level-within r t (p .at) b) in
+    let level : Every F here = every-weaken F (Lies (p .at) (p .at + length b)) here (λ q l. l .0) (passed-within r t (p .at) b) in
     by-reply (seek r t (p .at) b) (λ m e.
     let l = seek-inside r b t (p .at) m e in
     let deeper = passedFrom r s m path in
@@ -288,8 +257,8 @@ module _ (r : Reading) (s : List ℕ) where
       (coveredBy (passedFrom r s p path) i ≡ false) × (i < past (lastFrom r s p path)) × All (λ q. i < q .at) (follow r s p path)
 
   module _ (p : Span) (t : ℕ) (path : List ℕ) (i : ℕ) where
-    looked-level : i < past p → Looked r t (length (part s p)) (p .at) (part s p) i → LookedFrom p (t ∷ path) i
-    unfolding follow passedAt seek coveredBy lastFrom
+    looked-level : i < past p → Looked r t (p .at) (part s p) i → LookedFrom p (t ∷ path) i
+    unfolding follow coveredBy lastFrom
     looked-level h l =
         let x = seek r t (p .at) (part s p) in
         let here = passedAt r t (p .at) (part s p) in

@@ -1,29 +1,24 @@
 -- The values that a lookup passes over, what lies behind the part that it enters last, and a record with other bytes there.
 -- Document 01, "BER records" (lookup of a path) and "Mistakes a reader would make": a record is walked object by object, never
 -- searched for a tag's bytes.
-use Prim.Native.Nat.{ℕ, zero, suc, _+_}
+use Prim.Native.Nat.{ℕ, suc, _+_}
 use mathlib.Core.Bool.{Bool, true, false, cond}
 use mathlib.Core.List.{List, [], _∷_, _++_}
 use lib.Dec.{ltb, leb, eqb}
-use lib.ListN.{length, drop}
-use Rattle.tlv.specs.Object.{Object, sizeOf, objectOf}
-use Rattle.tlv.specs.Lookup.{Span, part, between, whole, seek, lookup}
+use lib.ListN.{length}
+use Rattle.tlv.specs.Walk.{Item, walk}
+use Rattle.tlv.specs.Lookup.{Span, part, between, whole, valueOf, seek, lookup}
 use Rattle.tlv.specs.declared.Reading.{Reading}
 use Rattle.tlv_laws.specs.Value.{ofValue}
 
--- where the value lies of an object that starts at place a
-abbrev pub valueAt : ℕ → Object → Span
-valueAt a o = record { at = a + o .at; len = o .len }
+-- the values of those objects of a walk that stand in front of the first with the tag
+unfoldable pub passedOf : ℕ → List Item → List Span
+passedOf t [] = []
+passedOf t (i ∷ rest) = cond (eqb (i .tag) t) [] (valueOf i ∷ passedOf t rest)
 
--- the values passed over on the way to the first object with the tag, in bytes s that start at place a of the record; at most n
--- objects are walked, and no list has more objects than bytes
-unfoldable pub passedIn : ℕ → Reading → ℕ → ℕ → List ℕ → List Span
-passedIn zero r t a s = []
-passedIn (suc n) r t a s =
-    ofValue (objectOf r s) [] (λ o. cond (eqb (o .tag) t) [] (valueAt a o ∷ passedIn n r t (a + sizeOf o) (drop (sizeOf o) s)))
-
+-- the values passed over on the way to the first object with the tag, in bytes s that start at place a of the record
 unfoldable pub passedAt : Reading → ℕ → ℕ → List ℕ → List Span
-passedAt r t a s = passedIn (length s) r t a s
+passedAt r t a s = passedOf t (walk r a s .items)
 
 -- the values passed over from a part of the record on, at every level of the path
 unfoldable pub passedFrom : Reading → List ℕ → Span → List ℕ → List Span

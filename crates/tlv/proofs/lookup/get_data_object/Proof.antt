@@ -9,7 +9,7 @@ use Rattle.basis.specs.Reply.{is}
 use Rattle.basis.proofs.Reply.{all-is}
 use Rattle.tlv.specs.Lookup.{Span, part, between, seek, follow, lookup, said}
 use Rattle.tlv.specs.declared.Reading.{Reading}
-use Rattle.tlv.proofs.Within.{Lies, seek-within}
+use Rattle.tlv.proofs.Found.{Lies, seek-within}
 use Rattle.tlv.proofs.Walk.{follow-no, follow-next, follow-end}
 use Rattle.tlv.proofs.lookup.get_data_object.Statement.{statement}
 use Rattle.tlv.proofs.lookup.get_data_object.Tie as tie

@@ -9,7 +9,7 @@ use Rattle.basis.specs.Reply.{is}
 use Rattle.basis.proofs.Reply.{all-is}
 use Rattle.tlv.specs.Lookup.{Span, lookup, said}
 use Rattle.tlv.specs.declared.Reading.{Reading}
-use Rattle.tlv.proofs.Within.{Lies, lookup-within}
+use Rattle.tlv.proofs.Found.{Lies, lookup-within}
 use Rattle.tlv.proofs.lookup.value.Statement.{statement}
 use Rattle.tlv.proofs.lookup.value.Tie as tie
 
