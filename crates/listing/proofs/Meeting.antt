@@ -112,7 +112,7 @@ lies-by s w y h g = lies (objectOf Crate (leftOf s w)) (object-within Crate (lef
   where
     lies : (x : Reply Object) → All (Ends (length (leftOf s w))) x → All (Lies s) (foundBy w x y)
     lies (is o) e =
-        (h, (omega (arith, e, length-take (w .place .at - w .at) (drop (w .at) s), h .inside), e .0))
+        (h, (omega (arith, e, length-take (w .place .at - w .at) (drop (w .at) s), h .inside), omega (arith, e)))
     lies (no k) e = all-cond (Lies s) (eqb k 11) _ _ (λ _. g) (λ _. (h, tt))
 
 pub found-lies : (left : ℕ) (s : List ℕ) (w : Within) → Sound s w → All (Lies s) (foundIn left s w)

@@ -13,7 +13,7 @@ use Rattle.basis.specs.Reply.{Reply, is, no}
 use Rattle.basis.proofs.Reply.{All, by-reply, all-is}
 use Rattle.tlv.specs.Tag.{tagOf}
 use Rattle.tlv.specs.Object.{Object, sizeOf, objectOf}
-use Rattle.tlv.specs.Walk.{Walk, itemAt, stopped, met, onward, walkIn, walk}
+use Rattle.tlv.specs.Walk.{Walk, itemAt, met, onward, walkIn, walk}
 use Rattle.tlv.specs.Lookup.{Span, part, first, seek, follow}
 use Rattle.tlv.specs.declared.Reading.{Reading}
 use Rattle.tlv.proofs.Within.{Ends, object-within}
@@ -45,11 +45,12 @@ module _ (r : Reading) where
       ∙ onward-same a (length s) _ _ (objectOf r s) (object-within r s) (λ o w.
       enough (length s) (length (drop (sizeOf o) s)) (a + sizeOf o) (drop (sizeOf o) s) (simp length-drop (omega arith)) (omega arith))
 
-  pub walk-no : (a : ℕ) (s : List ℕ) (k : ℕ) → objectOf r s ≡ no k → walk r a s ≡ stopped a k
+  pub walk-no : (a : ℕ) (s : List ℕ) (k : ℕ) → objectOf r s ≡ no k
+      → walk r a s ≡ record { items = []; stop = record { number = k; place = a } }
   walk-no a s k e = rw (walk-is a s, e)
 
-  pub walk-met : (a : ℕ) (s : List ℕ) (o : Object) → objectOf r s ≡ is o
-      → walk r a s ≡ met (itemAt a o) (walk r (a + sizeOf o) (drop (sizeOf o) s))
+  pub walk-met : (a : ℕ) (s : List ℕ) (o : Object) → objectOf r s ≡ is o → let w = walk r (a + sizeOf o) (drop (sizeOf o) s) in
+      walk r a s ≡ record { items = record { place = a; tag = o .tag; at = a + o .at; len = o .len } ∷ w .items; stop = w .stop }
   walk-met a s o e = rw (walk-is a s, e)
 
   -- what holds of bytes where no object is read, and of an object if it holds behind it, holds of all bytes

@@ -1,18 +1,20 @@
 -- What was read lies within the bytes that it was read in. Assumes nothing.
-use Prim.Native.Nat.{ℕ, _+_, _-_, _%_, _≤_}
+use Prim.Native.Nat.{ℕ, _+_, _-_, _≤_}
 use mathlib.Core.Path.{_≡_}
 use mathlib.Core.List.{List}
 use native.Mathlib.Omega.{arith}
-use lib.Dec.{ltb, leb, eqb}
-use lib.ListN.{length, getD, drop, length-drop}
-use borrow.Author.Tests.{leb-true, ltb-false}
+use lib.Dec.{leb}
+use lib.ListN.{length, drop, length-drop}
+use borrow.Author.Tests.{leb-true}
 use Rattle.basis.specs.Reply.{is}
 use Rattle.basis.proofs.Reply.{All, all-is, all-cond, all-then}
-use Rattle.tlv.specs.Tag.{Tag, sizeBy, thirdBy, threeBytes, longTag, tagOf}
+use Rattle.tlv.specs.Tag.{Tag, tagOf}
 use Rattle.tlv.specs.Len.{Len, lenTo82, lenOf}
 use Rattle.tlv.specs.Object.{Object, sizeOf, objectOf}
 use Rattle.tlv.specs.declared.Reading.{Reading}
 use Rattle.tlv.specs.declared.Reading.the-variants.{Crate, Standard}
+use Rattle.tlv.proofs.Tags.{by-tag}
+use Rattle.tlv.proofs.Lengths.{by-length}
 
 -- so many bytes of m, and not none
 abbrev pub Some : ℕ → ℕ → Type 0
@@ -29,29 +31,13 @@ abbrev pub Ends : ℕ → Object → Type 0
 Ends m o = (2 ≤ o .at) × (sizeOf o ≤ m)
 
 pub tag-within : (r : Reading) (s : List ℕ) → All (Tagged (length s)) (tagOf r s)
-unfolding tagOf longTag threeBytes
 tag-within r s =
-    let T = Tagged (length s) in
-    all-cond T (ltb (length s) 1) _ _ (λ _. tt)
-    (λ h. all-cond T (eqb (getD s 0 0 % 32) 31) _ _
-    (λ _. all-cond T (ltb (length s) 2) _ _ (λ _. tt)
-    (λ g. all-cond T (eqb (sizeBy r (getD s 1 0)) 0) _ _ (λ _. tt)
-    (λ _. all-cond T (eqb (sizeBy r (getD s 1 0)) 2) _ _ (λ _. omega (arith, ltb-false (length s) 2 g))
-    (λ _. all-cond T (ltb (length s) 3) _ _ (λ _. tt)
-    (λ f. all-cond T (thirdBy r (getD s 2 0)) _ _ (λ _. omega (arith, ltb-false (length s) 3 f)) (λ _. tt))))))
-    (λ _. omega (arith, ltb-false (length s) 1 h)))
+    by-tag r s (All (Tagged (length s))) (λ _. tt) (λ _. tt) (λ h _. omega (arith, h)) (λ _ h _. omega (arith, h))
+    (λ _ h _ _ _. omega (arith, h))
 
 len-82-within : (s : List ℕ) → All (Sized (length s)) (lenTo82 s)
-unfolding lenTo82
 len-82-within s =
-    let L = Sized (length s) in
-    all-cond L (ltb (length s) 1) _ _ (λ _. tt)
-    (λ h. all-cond L (leb (getD s 0 0) 0x7F) _ _ (λ _. omega (arith, ltb-false (length s) 1 h))
-    (λ _. all-cond L (eqb (getD s 0 0) 0x81) _ _
-    (λ _. all-cond L (ltb (length s) 2) _ _ (λ _. tt) (λ g. omega (arith, ltb-false (length s) 2 g)))
-    (λ _. all-cond L (eqb (getD s 0 0) 0x82) _ _
-    (λ _. all-cond L (ltb (length s) 3) _ _ (λ _. tt) (λ g. omega (arith, ltb-false (length s) 3 g)))
-    (λ _. tt))))
+    by-length s (All (Sized (length s))) tt (λ h _. omega (arith, h)) (λ h _. omega (arith, h)) (λ h _. omega (arith, h))
 
 pub len-within : (r : Reading) (s : List ℕ) → All (Sized (length s)) (lenOf r s)
 len-within Crate s = len-82-within s

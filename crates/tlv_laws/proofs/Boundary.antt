@@ -1,26 +1,29 @@
 -- Bytes in which a tag is refused with 11 are whole objects, none of them with that tag: document 01, "Numbers of refusal" (11).
 -- So a place to which a lookup comes in a list is told by the bytes in front of it. Assumes nothing.
-use Prim.Native.Nat.{ℕ, _+_, _%_, _≤_}
+use Prim.Native.Nat.{ℕ, _+_, _≤_}
 use mathlib.Core.Path.{_≡_, refl, sym, _∙_, subst}
 use mathlib.Core.Logic.{_⊎_, inl, inr}
 use mathlib.Core.List.{List, [], _∷_, _++_}
 use native.Mathlib.Nat.{add-zero}
 use native.Mathlib.Omega.{arith}
-use lib.Dec.{ltb, leb, eqb}
-use lib.ListN.{length, getD, take, drop, length-take, length-drop, length-append, drop-of-length-le}
+use lib.Dec.{leb, eqb}
+use lib.ListN.{length, take, drop, length-take, length-drop, length-append, drop-of-length-le}
 use lib.Seq.{take-length, take-take, take-append-le, drop-append-le}
-use borrow.Author.Tests.{eqb-true, eqb-false, le-ltb}
+use borrow.Author.Tests.{eqb-true, eqb-false}
 use Rattle.basis.specs.Reply.{Reply, is, no, then}
 use Rattle.basis.proofs.Reply.{by-reply, no-is}
-use Rattle.tlv.specs.Tag.{sizeBy, thirdBy, threeBytes, longTag, tagOf}
+use Rattle.basis.proofs.Truth.{on-cond}
+use Rattle.tlv.specs.Tag.{tagOf}
 use Rattle.tlv.specs.Len.{lenTo82, lenOf}
 use Rattle.tlv.specs.Object.{Object, sizeOf, objectOf}
 use Rattle.tlv.specs.Lookup.{seek, follow, lookup}
 use Rattle.tlv.specs.declared.Reading.{Reading}
 use Rattle.tlv.specs.declared.Reading.the-variants.{Crate, Standard}
+use Rattle.tlv.proofs.Tags.{by-tag}
+use Rattle.tlv.proofs.Lengths.{by-length}
 use Rattle.tlv.proofs.Within.{object-inside}
 use Rattle.tlv.proofs.Walk.{by-objects, seek-no, seek-here, seek-next}
-use Rattle.tlv_laws.proofs.Choice.{by-test, on-cond}
+use Rattle.tlv_laws.proofs.Choice.{by-test}
 use Rattle.tlv_laws.proofs.Front.{object-front}
 
 -- no refusal but 12
@@ -33,25 +36,11 @@ only-then (is a) f h g = g a
 only-then (no k) f h g = h
 
 tag-only : (r : Reading) (s : List ℕ) → 1 ≤ length s → Only12 (tagOf r s)
-unfolding tagOf longTag threeBytes
 tag-only r s h =
-    rw (le-ltb (length s) 1 h)
-    (on-cond Only12 (eqb (getD s 0 0 % 32) 31) _ _
-    (λ _. on-cond Only12 (ltb (length s) 2) _ _ (λ _. refl)
-    (λ _. on-cond Only12 (eqb (sizeBy r (getD s 1 0)) 0) _ _ (λ _. refl)
-    (λ _. on-cond Only12 (eqb (sizeBy r (getD s 1 0)) 2) _ _ (λ _. tt)
-    (λ _. on-cond Only12 (ltb (length s) 3) _ _ (λ _. refl)
-    (λ _. on-cond Only12 (thirdBy r (getD s 2 0)) _ _ (λ _. tt) (λ _. refl))))))
-    (λ _. tt))
+    by-tag r s Only12 (λ n. absurd (omega arith)) (λ _. refl) (λ _ _. tt) (λ _ _ _. tt) (λ _ _ _ _ _. tt)
 
 len-82-only : (s : List ℕ) → Only12 (lenTo82 s)
-unfolding lenTo82
-len-82-only s =
-    on-cond Only12 (ltb (length s) 1) _ _ (λ _. refl)
-    (λ _. on-cond Only12 (leb (getD s 0 0) 0x7F) _ _ (λ _. tt)
-    (λ _. on-cond Only12 (eqb (getD s 0 0) 0x81) _ _ (λ _. on-cond Only12 (ltb (length s) 2) _ _ (λ _. refl) (λ _. tt))
-    (λ _. on-cond Only12 (eqb (getD s 0 0) 0x82) _ _ (λ _. on-cond Only12 (ltb (length s) 3) _ _ (λ _. refl) (λ _. tt))
-    (λ _. refl))))
+len-82-only s = by-length s Only12 refl (λ _ _. tt) (λ _ _. tt) (λ _ _. tt)
 
 len-only : (r : Reading) (s : List ℕ) → Only12 (lenOf r s)
 len-only Crate s = len-82-only s

@@ -7,10 +7,6 @@ pub by-test : {P : Type 0} (b : Bool) → (b ≡ true → P) → (b ≡ false �
 by-test true h g = h refl
 by-test false h g = g refl
 
-pub on-cond : {A : Type 0} (P : A → Type 0) (b : Bool) (x y : A) → (b ≡ true → P x) → (b ≡ false → P y) → P (cond b x y)
-on-cond P true x y h g = h refl
-on-cond P false x y h g = g refl
-
 -- two choices by one test
 pub same-cond : {A : Type 0} (b : Bool) (x x′ y y′ : A) → (b ≡ true → x ≡ x′) → (b ≡ false → y ≡ y′) → cond b x y ≡ cond b x′ y′
 same-cond true x x′ y y′ h g = h refl

@@ -9,10 +9,10 @@ use lib.Dec.{leb}
 use lib.ListN.{length, getD}
 use borrow.Author.Tests.{ltb-true, lt-ltb, le-ltb, le-leb, lt-leb}
 use Rattle.basis.specs.Every.{Every}
-use Rattle.basis.proofs.Truth.{both}
+use Rattle.basis.proofs.Truth.{both, on-cond}
 use Rattle.tlv.specs.Lookup.{Span}
 use Rattle.tlv_laws.specs.Skipped.{covers, coveredBy, fillIn}
-use Rattle.tlv_laws.proofs.Choice.{by-test, on-cond, neither}
+use Rattle.tlv_laws.proofs.Choice.{by-test, neither}
 
 -- places outside of a part, and of all parts of a list
 pub covers-ahead : (q : Span) (i : ℕ) → i < q .at → covers q i ≡ false

@@ -12,7 +12,7 @@ use borrow.Author.Tests.{ltb-false, leb-true, eqb-true, eqb-false, le-ltb, le-le
 use Rattle.basis.specs.Differ.{Differ}
 use Rattle.basis.specs.Reply.{is, no as refused}
 use Rattle.basis.proofs.Reply.{All, by-reply, all-is, all-cond, no-is, then-same, all-self}
-use Rattle.basis.proofs.Truth.{both}
+use Rattle.basis.proofs.Truth.{both, on-cond}
 use Rattle.tlv.specs.Tag.{among, sizeBy, sizeByCrate, sizeByStandard, thirdBy, thirdByCrate, threeBytes, longTag, tagOf}
 use Rattle.tlv.specs.Object.{sizeOf, objectOf}
 use Rattle.tlv.specs.Walk.{walk}
@@ -20,53 +20,38 @@ use Rattle.tlv.specs.Lookup.{Span, part, whole, seek, follow, lookup}
 use Rattle.tlv.proofs.Among.{inside, below, above}
 use Rattle.tlv.proofs.Walk.{walk-no, walk-met, by-objects, seek-no, seek-is}
 use Rattle.tlv.specs.declared.Reading.the-variants.{Crate, Standard}
-use Rattle.tlv_laws.specs.Readings.{partsTwo, partsThree, tagParts, meetsOf, meetsAt, meetsFrom, meets}
+use Rattle.tlv_laws.specs.Readings.{isOrFF, partsTwo, partsThree, tagParts, meetsOf, meetsAt, meetsFrom, meets}
 use Rattle.tlv_laws.specs.Value.{ofValue}
-use Rattle.tlv_laws.proofs.Choice.{by-test, on-cond, same-cond, neither, not-true-false}
+use Rattle.tlv_laws.proofs.Choice.{by-test, same-cond, neither, not-true-false}
 use Rattle.tlv_laws.proofs.Boundary.{walked-none, walked-append, walked-next}
 
--- the second bytes on which they part: 1E, and from FF on
-two-1e : partsTwo 0x1E ≡ true
-unfolding partsTwo
-two-1e = refl
-
-two-ff : (b : ℕ) → 0xFF ≤ b → partsTwo b ≡ true
-unfolding partsTwo
-two-ff b h = on-cond (λ x. x ≡ true) (eqb b _) _ _ (λ _. refl) (λ _. le-leb _ b (omega arith))
-
-two-other : (b : ℕ) → (b ≡ 0x1E → ⊥) → b < 0xFF → partsTwo b ≡ false
-unfolding partsTwo
-two-other b n h = rw (ne-eqb b 0x1E n) (lt-leb _ b (omega arith))
-
--- the third bytes: 80, and from FF on
-three-80 : partsThree 0x80 ≡ true
-unfolding partsThree
-three-80 = refl
-
-three-ff : (b : ℕ) → 0xFF ≤ b → partsThree b ≡ true
-unfolding partsThree
-three-ff b h = on-cond (λ x. x ≡ true) (eqb b _) _ _ (λ _. refl) (λ _. le-leb _ b (omega arith))
-
-three-other : (b : ℕ) → (b ≡ 0x80 → ⊥) → b < 0xFF → partsThree b ≡ false
-unfolding partsThree
-three-other b n h = rw (ne-eqb b 0x80 n) (lt-leb _ b (omega arith))
-
 -- a byte that is k or from FF on, told by a truth value
-module _ (parts : ℕ → Bool) (k : ℕ) (here : parts k ≡ true) (from : (b : ℕ) → 0xFF ≤ b → parts b ≡ true)
-    (other : (b : ℕ) → (b ≡ k → ⊥) → b < 0xFF → parts b ≡ false) (b : ℕ) where
-  not-parted : parts b ≡ false → (b ≡ k → ⊥) × (b < 0xFF)
+module _ (k b : ℕ) where
+  is-or : b ≡ k → isOrFF k b ≡ true
+  unfolding isOrFF
+  is-or e = rw (eq-eqb b k e)
+
+  is-ff : 0xFF ≤ b → isOrFF k b ≡ true
+  unfolding isOrFF
+  is-ff h = on-cond (λ x. x ≡ true) (eqb b k) _ _ (λ _. refl) (λ _. le-leb _ b (omega arith))
+
+  is-neither : (b ≡ k → ⊥) → b < 0xFF → isOrFF k b ≡ false
+  unfolding isOrFF
+  is-neither n h = rw (ne-eqb b k n) (lt-leb _ b (omega arith))
+
+  not-parted : isOrFF k b ≡ false → (b ≡ k → ⊥) × (b < 0xFF)
   not-parted e = (
-    λ z. true≢false (sym here ∙ rw z at e),
-    elim (decLt b 0xFF) [ yes h ↦ h | no h ↦ absurd (true≢false (sym (from b (omega arith)) ∙ e)) ],
+    λ z. true≢false (sym (is-or z) ∙ e),
+    elim (decLt b 0xFF) [ yes h ↦ h | no h ↦ absurd (true≢false (sym (is-ff (omega arith)) ∙ e)) ],
   )
 
-  parted : parts b ≡ true → (b ≡ k → ⊥) → 0xFF ≤ b
-  parted e n = elim (decLt b 0xFF) [ yes h ↦ absurd (true≢false (sym e ∙ other b n h)) | no h ↦ omega arith ]
+  parted : isOrFF k b ≡ true → (b ≡ k → ⊥) → 0xFF ≤ b
+  parted e n = elim (decLt b 0xFF) [ yes h ↦ absurd (true≢false (sym e ∙ is-neither n h)) | no h ↦ omega arith ]
 
 -- a second byte on which they part: the crate's tag ends there, the standard's does not
 module _ (b : ℕ) (e : partsTwo b ≡ true) where
   two-from : eqb b 0x1E ≡ false → 0xFF ≤ b
-  two-from h = parted partsTwo 0x1E two-1e two-ff two-other b e (eqb-false b 0x1E h)
+  two-from h = parted 0x1E b e (eqb-false b 0x1E h)
 
   two-crate : sizeByCrate b ≡ 2
   unfolding sizeByCrate among
@@ -86,7 +71,7 @@ module _ (b : ℕ) (e : partsTwo b ≡ true) where
 two-alike : (b : ℕ) → partsTwo b ≡ false → sizeByCrate b ≡ sizeByStandard b
 unfolding sizeByCrate sizeByStandard
 two-alike b e =
-    let n = not-parted partsTwo 0x1E two-1e two-ff two-other b e in
+    let n = not-parted 0x1E b e in
     elim (decLt b 0x1F) [
       | yes p ↦ rw (inside 0 0x1D b (omega arith) (omega arith), below 0x1F 0x7F b p, below 0x81 0xFF b (omega arith))
       | no p ↦
@@ -122,7 +107,7 @@ two-alike b e =
 three-alike : (b : ℕ) → partsThree b ≡ false → thirdByCrate b ≡ leb b 0x7F
 unfolding thirdByCrate
 three-alike b e =
-    let n = not-parted partsThree 0x80 three-80 three-ff three-other b e in
+    let n = not-parted 0x80 b e in
     elim (decLe b 0x7F) [
       | yes p ↦ rw (below 0x81 0xFE b (omega arith), le-leb b 0x7F p)
       | no p ↦ rw (inside 0x81 0xFE b (omega arith) (omega arith), lt-leb b 0x7F (omega arith))
@@ -132,7 +117,7 @@ three-differ : (b : ℕ) → partsThree b ≡ true → (thirdByCrate b ≡ true)
 unfolding thirdByCrate among
 three-differ b e =
     by-test (eqb b 0x80) (λ h. let g : b ≡ 0x80 = eqb-true b 0x80 h in (rw g, rw g)) (λ h.
-    let g = parted partsThree 0x80 three-80 three-ff three-other b e (eqb-false b 0x80 h) in
+    let g = parted 0x80 b e (eqb-false b 0x80 h) in
     (rw (above 0x81 0xFE b (omega arith) g), lt-leb b 0x7F (omega arith)))
 
 -- a tag that the crate takes for three bytes long

@@ -12,6 +12,7 @@ use lib.Seq.{getD-take, getD-drop, ext-getD, length-take-le}
 use borrow.Author.Tests.{lt-ltb, ne-eqb}
 use Rattle.basis.specs.Reply.{is, no as refused}
 use Rattle.basis.proofs.Reply.{All, by-reply, all-is, all-cond, all-weaken, then-same, no-is, all-self, all-both}
+use Rattle.basis.proofs.Truth.{on-cond}
 use Rattle.tlv.specs.Object.{Object, sizeOf, objectOf}
 use Rattle.tlv.specs.Lookup.{Span, part, whole, seek, follow, lookup}
 use Rattle.tlv.specs.declared.Reading.{Reading}
@@ -21,7 +22,7 @@ use Rattle.basis.specs.Every.{Every}
 use Rattle.basis.proofs.Every.{every-append, every-weaken}
 use Rattle.tlv_laws.specs.Skipped.{passedOf, passedAt, passedFrom, passed, lastFrom, lastEntered, past}
 use Rattle.tlv_laws.specs.Skipped.{covers, coveredBy, seenTo, seen}
-use Rattle.tlv_laws.proofs.Choice.{by-test, on-cond, same-cond}
+use Rattle.tlv_laws.proofs.Choice.{by-test, same-cond}
 use Rattle.tlv_laws.proofs.Front.{object-front}
 use Rattle.tlv_laws.proofs.Behind.{follow-inside}
 use Rattle.tlv_laws.proofs.Covered.{Before, covers-ahead, covers-behind, uncovered, uncovered-append}
