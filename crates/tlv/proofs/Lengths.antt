@@ -1,6 +1,6 @@
 -- What each first byte of a length comes to. Assumes nothing.
 use Prim.Native.Nat.{ℕ, _+_, _*_, _≤_, _<_}
-use mathlib.Core.Path.{_≡_}
+use mathlib.Core.Path.{_≡_, refl}
 use mathlib.Core.List.{List}
 use native.Mathlib.Omega.{arith}
 use borrow.Author.Tests.{lt-ltb, le-ltb, le-leb, lt-leb, eq-eqb, ne-eqb, ltb-false, leb-true, eqb-true}
@@ -8,7 +8,14 @@ use lib.Dec.{ltb, leb, eqb}
 use lib.ListN.{length, getD}
 use Rattle.basis.specs.Reply.{Reply, is, no}
 use Rattle.basis.proofs.Truth.{on-cond}
-use Rattle.tlv.specs.Len.{Len, lenTo82}
+use Rattle.tlv.specs.Len.{Len, lenTo82, lenOf}
+use Rattle.tlv.specs.declared.Reading.{Reading}
+use Rattle.tlv.specs.declared.Reading.the-variants.{Crate, Standard}
+
+-- both readings read lengths alike
+pub len-82 : (r : Reading) (s : List ℕ) → lenOf r s ≡ lenTo82 s
+len-82 Crate s = refl
+len-82 Standard s = refl
 
 module _ (s : List ℕ) where
   pub no-length : length s < 1 → lenTo82 s ≡ no 12
@@ -63,18 +70,18 @@ module _ (s : List ℕ) where
         )
 
   -- what holds of 12 and of these lengths holds of whatever stands there
-  pub by-length : (P : Reply Len → Type 0) → P (no 12)
+  pub by-length : (r : Reading) (P : Reply Len → Type 0) → P (no 12)
       → (1 ≤ length s → getD s 0 0 ≤ 0x7F → P (is (record { number = getD s 0 0; size = 1 })))
       → (2 ≤ length s → getD s 0 0 ≡ 0x81 → P (is (record { number = getD s 1 0; size = 2 })))
       → (3 ≤ length s → getD s 0 0 ≡ 0x82 → P (is (record { number = getD s 1 0 * 256 + getD s 2 0; size = 3 })))
-      → P (lenTo82 s)
+      → P (lenOf r s)
   unfolding lenTo82
-  by-length P unread one two three =
+  by-length r P unread one two three =
       let l = getD s 0 0 in
-      on-cond P (ltb (length s) 1) _ _ (λ _. unread)
+      rw (len-82 r s) (on-cond P (ltb (length s) 1) _ _ (λ _. unread)
       (λ a. on-cond P (leb l 0x7F) _ _ (λ b. one (ltb-false (length s) 1 a) (leb-true l 0x7F b))
       (λ _. on-cond P (eqb l 0x81) _ _
       (λ b. on-cond P (ltb (length s) 2) _ _ (λ _. unread) (λ c. two (ltb-false (length s) 2 c) (eqb-true l 0x81 b)))
       (λ _. on-cond P (eqb l 0x82) _ _
       (λ b. on-cond P (ltb (length s) 3) _ _ (λ _. unread) (λ c. three (ltb-false (length s) 3 c) (eqb-true l 0x82 b)))
-      (λ _. unread))))
+      (λ _. unread)))))

@@ -9,10 +9,9 @@ use borrow.Author.Tests.{leb-true}
 use Rattle.basis.specs.Reply.{is}
 use Rattle.basis.proofs.Reply.{All, all-is, all-cond, all-then}
 use Rattle.tlv.specs.Tag.{Tag, tagOf}
-use Rattle.tlv.specs.Len.{Len, lenTo82, lenOf}
+use Rattle.tlv.specs.Len.{Len, lenOf}
 use Rattle.tlv.specs.Object.{Object, sizeOf, objectOf}
 use Rattle.tlv.specs.declared.Reading.{Reading}
-use Rattle.tlv.specs.declared.Reading.the-variants.{Crate, Standard}
 use Rattle.tlv.proofs.Tags.{by-tag}
 use Rattle.tlv.proofs.Lengths.{by-length}
 
@@ -35,13 +34,9 @@ tag-within r s =
     by-tag r s (All (Tagged (length s))) (λ _. tt) (λ _. tt) (λ h _. omega (arith, h)) (λ _ h _. omega (arith, h))
     (λ _ h _ _ _. omega (arith, h))
 
-len-82-within : (s : List ℕ) → All (Sized (length s)) (lenTo82 s)
-len-82-within s =
-    by-length s (All (Sized (length s))) tt (λ h _. omega (arith, h)) (λ h _. omega (arith, h)) (λ h _. omega (arith, h))
-
 pub len-within : (r : Reading) (s : List ℕ) → All (Sized (length s)) (lenOf r s)
-len-within Crate s = len-82-within s
-len-within Standard s = len-82-within s
+len-within r s =
+    by-length s r (All (Sized (length s))) tt (λ h _. omega (arith, h)) (λ h _. omega (arith, h)) (λ h _. omega (arith, h))
 
 pub object-within : (r : Reading) (s : List ℕ) → All (Ends (length s)) (objectOf r s)
 unfolding objectOf

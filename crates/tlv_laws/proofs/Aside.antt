@@ -14,7 +14,7 @@ use Rattle.basis.specs.Reply.{is}
 use Rattle.basis.proofs.Reply.{by-reply}
 use Rattle.tlv.specs.Lookup.{Span, lookup, valueIn}
 use Rattle.tlv.specs.declared.Reading.{Reading}
-use Rattle.tlv.proofs.Found.{lookup-inside}
+use Rattle.tlv.proofs.Walk.{lookup-inside}
 use Rattle.basis.proofs.Every.{every-weaken}
 use Rattle.tlv_laws.specs.Skipped.{passed, lastEntered, past}
 use Rattle.tlv_laws.specs.Skipped.{covers, coveredBy, behind, aside, refill, seenTo, seen}

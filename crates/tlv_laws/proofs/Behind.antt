@@ -13,8 +13,7 @@ use Rattle.basis.proofs.Reply.{All, by-reply, all-is, all-cond, all-then, all-w
 use Rattle.tlv.specs.Object.{sizeOf}
 use Rattle.tlv.specs.Lookup.{Span, part, whole, seek, follow, lookup}
 use Rattle.tlv.specs.declared.Reading.{Reading}
-use Rattle.tlv.proofs.Walk.{by-objects, seek-no, seek-is, seek-here, seek-next}
-use Rattle.tlv.proofs.Found.{Lies, seek-within, seek-inside, lookup-inside}
+use Rattle.tlv.proofs.Walk.{by-objects, seek-no, seek-is, seek-here, seek-next, Lies, seek-within, seek-inside, lookup-inside}
 use Rattle.tlv_laws.proofs.Front.{front-less, front-rest, object-front}
 
 -- a list s′ that has the bytes of s in front, up to a value found at a level, and room for that value

@@ -14,11 +14,10 @@ use Rattle.basis.specs.Reply.{Reply, is, no, then}
 use Rattle.basis.proofs.Reply.{by-reply, no-is}
 use Rattle.basis.proofs.Truth.{on-cond}
 use Rattle.tlv.specs.Tag.{tagOf}
-use Rattle.tlv.specs.Len.{lenTo82, lenOf}
+use Rattle.tlv.specs.Len.{lenOf}
 use Rattle.tlv.specs.Object.{Object, sizeOf, objectOf}
 use Rattle.tlv.specs.Lookup.{seek, follow, lookup}
 use Rattle.tlv.specs.declared.Reading.{Reading}
-use Rattle.tlv.specs.declared.Reading.the-variants.{Crate, Standard}
 use Rattle.tlv.proofs.Tags.{by-tag}
 use Rattle.tlv.proofs.Lengths.{by-length}
 use Rattle.tlv.proofs.Within.{object-inside}
@@ -39,12 +38,8 @@ tag-only : (r : Reading) (s : List ℕ) → 1 ≤ length s → Only12 (tagOf r s
 tag-only r s h =
     by-tag r s Only12 (λ n. absurd (omega arith)) (λ _. refl) (λ _ _. tt) (λ _ _ _. tt) (λ _ _ _ _ _. tt)
 
-len-82-only : (s : List ℕ) → Only12 (lenTo82 s)
-len-82-only s = by-length s Only12 refl (λ _ _. tt) (λ _ _. tt) (λ _ _. tt)
-
 len-only : (r : Reading) (s : List ℕ) → Only12 (lenOf r s)
-len-only Crate s = len-82-only s
-len-only Standard s = len-82-only s
+len-only r s = by-length s r Only12 refl (λ _ _. tt) (λ _ _. tt) (λ _ _. tt)
 
 object-only : (r : Reading) (s : List ℕ) → 1 ≤ length s → Only12 (objectOf r s)
 unfolding objectOf

@@ -17,7 +17,7 @@ use Rattle.tlv.specs.Object.{Object, sizeOf, objectOf}
 use Rattle.tlv.specs.Lookup.{Span, part, whole, seek, follow, lookup, valueIn}
 use Rattle.tlv.specs.declared.Reading.{Reading}
 use Rattle.tlv.proofs.Within.{object-inside}
-use Rattle.tlv.proofs.Found.{lookup-inside}
+use Rattle.tlv.proofs.Walk.{lookup-inside}
 use Rattle.tlv_laws.specs.Skipped.{passedAt, passed, lastEntered, coveredBy, aside, refill}
 use Rattle.tlv_laws.proofs.Front.{object-front}
 use Rattle.tlv_laws.proofs.Behind.{follow-append}

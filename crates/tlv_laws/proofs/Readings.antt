@@ -1,5 +1,5 @@
 -- On exactly which tags the crate's and the standard reading part, and that nothing else does. Assumes nothing.
-use Prim.Native.Nat.{ℕ, _+_, _*_, _%_, _≤_, _<_}
+use Prim.Native.Nat.{ℕ, _+_, _%_, _≤_, _<_}
 use mathlib.Core.Path.{_≡_, refl, sym, ap, _∙_}
 use mathlib.Core.Bool.{Bool, true, false, cond, true≢false, false≢true}
 use mathlib.Core.List.{List, [], _∷_, _++_, append-assoc}
@@ -8,16 +8,17 @@ use native.Mathlib.Decide.{decLt, decLe}
 use lib.Dec.{ltb, leb, eqb}
 use lib.ListN.{length, getD, take, drop, take-append-drop}
 use lib.Seq.{drop-drop}
-use borrow.Author.Tests.{ltb-false, leb-true, eqb-true, eqb-false, le-ltb, le-leb, lt-leb, eq-eqb, ne-eqb}
+use borrow.Author.Tests.{ltb-false, leb-true, eqb-true, eqb-false, le-leb, lt-leb, eq-eqb, ne-eqb}
 use Rattle.basis.specs.Differ.{Differ}
 use Rattle.basis.specs.Reply.{is, no as refused}
-use Rattle.basis.proofs.Reply.{All, by-reply, all-is, all-cond, no-is, then-same, all-self}
+use Rattle.basis.proofs.Reply.{All, by-reply, all-is, then-same, all-self}
 use Rattle.basis.proofs.Truth.{both, on-cond}
-use Rattle.tlv.specs.Tag.{among, sizeBy, sizeByCrate, sizeByStandard, thirdBy, thirdByCrate, threeBytes, longTag, tagOf}
+use Rattle.tlv.specs.Tag.{Tag, among, sizeBy, sizeByCrate, sizeByStandard, thirdBy, thirdByCrate, threeBytes, longTag, tagOf}
 use Rattle.tlv.specs.Object.{sizeOf, objectOf}
 use Rattle.tlv.specs.Walk.{walk}
 use Rattle.tlv.specs.Lookup.{Span, part, whole, seek, follow, lookup}
 use Rattle.tlv.proofs.Among.{inside, below, above}
+use Rattle.tlv.proofs.Tags.{tag-two, tag-three, by-tag}
 use Rattle.tlv.proofs.Walk.{walk-no, walk-met, by-objects, seek-no, seek-is}
 use Rattle.tlv.specs.declared.Reading.the-variants.{Crate, Standard}
 use Rattle.tlv_laws.specs.Readings.{isOrFF, partsTwo, partsThree, tagParts, meetsOf, meetsAt, meetsFrom, meets}
@@ -157,33 +158,26 @@ module _ (s : List ℕ) where
       (λ _. refl))
 
   -- where they part, one reads a tag that the other does not
-  module _ (h : ltb (length s) 2 ≡ false) (f : eqb (getD s 0 0 % 32) 31 ≡ true) (q : tagOf Crate s ≡ tagOf Standard s) where
-    some : ltb (length s) 1 ≡ false
-    some = le-ltb (length s) 1 (omega (arith, ltb-false (length s) 2 h))
-
+  module _ (h : 2 ≤ length s) (f : getD s 0 0 % 32 ≡ 31) (q : tagOf Crate s ≡ tagOf Standard s) where
     part-two : partsTwo (getD s 1 0) ≡ true → ⊥
-    unfolding tagOf longTag threeBytes sizeBy
+    unfolding sizeBy
     part-two e =
-        let short : tagOf Crate s ≡ is (record { number = getD s 0 0 * 256 + getD s 1 0; size = 2 }) =
-        rw (some, f, h, two-crate (getD s 1 0) e) in
+        let other = eqb-false (sizeByStandard (getD s 1 0)) 2 (two-standard (getD s 1 0) e) in
         let long : All (λ t. t .size ≡ 3) (tagOf Standard s) =
-        rw (some, f, h, two-standard (getD s 1 0) e)
-        (all-cond (λ t. t .size ≡ 3) (eqb (sizeByStandard (getD s 1 0)) 0) _ _ (λ _. tt) (λ _.
-        all-cond (λ t. t .size ≡ 3) (ltb (length s) 3) _ _ (λ _. tt) (λ _.
-        all-cond (λ t. t .size ≡ 3) (thirdBy Standard (getD s 2 0)) _ _ (λ _. refl) (λ _. tt)))) in
-        omega (arith, all-is (λ t. t .size ≡ 3) (tagOf Standard s) _ long (sym q ∙ short))
+        by-tag Standard s (All (λ t. t .size ≡ 3)) (λ _. tt) (λ _. tt) (λ _ n. absurd (n f)) (λ _ _ z. absurd (other z)) (λ _ _ _ _ _. refl) in
+        omega (arith, all-is (λ t. t .size ≡ 3) (tagOf Standard s) _ long (sym q ∙ tag-two Crate s f h (two-crate (getD s 1 0) e)))
 
-    part-three : partsTwo (getD s 1 0) ≡ false → among 0x81 0xFE (getD s 1 0) ≡ true → ltb (length s) 3 ≡ false
-        → partsThree (getD s 2 0) ≡ true → ⊥
-    unfolding tagOf longTag threeBytes sizeBy thirdBy
+    part-three : partsTwo (getD s 1 0) ≡ false → among 0x81 0xFE (getD s 1 0) ≡ true → 3 ≤ length s → partsThree (getD s 2 0) ≡ true → ⊥
+    unfolding sizeBy thirdBy
     part-three e a g p =
         let three : sizeByCrate (getD s 1 0) ≡ 3 = threes-crate (getD s 1 0) a in
+        let same : sizeByStandard (getD s 1 0) ≡ 3 = sym (two-alike (getD s 1 0) e) ∙ three in
         let d = three-differ (getD s 2 0) p in
-        let taken : tagOf Crate s ≡ is (record { number = (getD s 0 0 * 256 + getD s 1 0) * 256 + getD s 2 0; size = 3 }) =
-        rw (some, f, h, three, g, d .0) in
-        let left : tagOf Standard s ≡ refused 12 =
-        rw (some, f, h, sym (two-alike (getD s 1 0) e) ∙ three, g, d .1) in
-        no-is 12 _ (sym left ∙ sym q ∙ taken)
+        let none : All (λ (t : Tag). ⊥) (tagOf Standard s) =
+        by-tag Standard s (All (λ (t : Tag). ⊥)) (λ _. tt) (λ _. tt) (λ _ n. n f) (λ _ _ z. omega (arith, z, same))
+        (λ _ _ _ _ t. true≢false (sym t ∙ d .1)) in
+        let taken = tag-three Crate s f g (λ z. omega (arith, z, three)) (λ z. omega (arith, z, three)) (d .0) in
+        all-is (λ (t : Tag). ⊥) (tagOf Standard s) _ none (sym q ∙ taken)
 
   pub tags-part : tagParts s ≡ true → tagOf Crate s ≡ tagOf Standard s → ⊥
   unfolding tagParts
@@ -191,10 +185,13 @@ module _ (s : List ℕ) where
       let b2 = getD s 1 0 in
       by-test (ltb (length s) 2) (λ h. false≢true (rw h at e)) (λ h.
       by-test (eqb (getD s 0 0 % 32) 31)
-      (λ f. by-test (partsTwo b2) (part-two h f q) (λ p.
+      (λ f.
+      let two = ltb-false (length s) 2 h in
+      let long = eqb-true (getD s 0 0 % 32) 31 f in
+      by-test (partsTwo b2) (part-two two long q) (λ p.
       by-test (among 0x81 0xFE b2)
       (λ a. by-test (ltb (length s) 3) (λ g. false≢true (rw (h, f, p, a, g) at e)) (λ g.
-      part-three h f q p a g (rw (h, f, p, a, g) at e)))
+      part-three two long q p a (ltb-false (length s) 3 g) (rw (h, f, p, a, g) at e)))
       (λ a. false≢true (rw (h, f, p, a) at e))))
       (λ f. false≢true (rw (h, f) at e)))
 

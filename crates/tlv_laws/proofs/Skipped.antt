@@ -16,8 +16,7 @@ use Rattle.basis.proofs.Truth.{on-cond}
 use Rattle.tlv.specs.Object.{Object, sizeOf, objectOf}
 use Rattle.tlv.specs.Lookup.{Span, part, whole, seek, follow, lookup}
 use Rattle.tlv.specs.declared.Reading.{Reading}
-use Rattle.tlv.proofs.Walk.{walk-no, walk-met, by-objects, seek-no, seek-is}
-use Rattle.tlv.proofs.Found.{Lies, seek-inside}
+use Rattle.tlv.proofs.Walk.{walk-no, walk-met, by-objects, seek-no, seek-is, Lies, seek-inside}
 use Rattle.basis.specs.Every.{Every}
 use Rattle.basis.proofs.Every.{every-append, every-weaken}
 use Rattle.tlv_laws.specs.Skipped.{passedOf, passedAt, passedFrom, passed, lastFrom, lastEntered, past}
