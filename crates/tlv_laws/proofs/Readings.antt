@@ -216,11 +216,12 @@ module _ (t : ℕ) (l : List ℕ) where
   level-alike =
       by-objects Crate Alike
       (λ a s k e b d m.
-      let same = objects-alike s (rw (walk-no Crate a s k e, d) at m) in
+      let none : tagParts (drop a l) ≡ false = rw (walk-no Crate a s k e) at m in
+      let same = objects-alike s (rw d at none) in
       seek-no Crate t b s k e ∙ sym (seek-no Standard t b s k (sym same ∙ e)))
       (λ a s o e w deeper b d m.
-      let n = neither (tagParts s) _ (rw (walk-met Crate a s o e, d) at m) in
-      let same = objects-alike s (n .0) in
+      let n = neither (tagParts (drop a l)) _ (rw (walk-met Crate a s o e) at m) in
+      let same = objects-alike s (rw d at (n .0)) in
       rw (seek-is Crate t b s o e, seek-is Standard t b s o (sym same ∙ e))
       (same-cond (eqb (o .tag) t) _ _ _ _ (λ _. refl) (λ h.
       deeper (b + sizeOf o) (sym (drop-drop (sizeOf o) a l) ∙ ap (drop (sizeOf o)) d) (rw h at (n .1)))))
@@ -234,7 +235,9 @@ module _ (t : ℕ) (l : List ℕ) where
   unfolding meetsOf
   level-none =
       by-objects Crate None
-      (λ a s k e d h. rw (walk-no Crate a s k e, d) (h [] s refl (walked-none Crate t)))
+      (λ a s k e d h.
+      let none : tagParts (drop a l) ≡ false = rw d (h [] s refl (walked-none Crate t)) in
+      rw (walk-no Crate a s k e) none)
       (λ a s o e w deeper d h.
       let k = sizeOf o in
       rw (walk-met Crate a s o e, d, h [] s refl (walked-none Crate t))
