@@ -52,7 +52,7 @@ module _ (k b : ℕ) where
 -- a second byte on which they part: the crate's tag ends there, the standard's does not
 module _ (b : ℕ) (e : partsTwo b ≡ true) where
   two-from : eqb b 0x1E ≡ false → 0xFF ≤ b
-  two-from h = parted 0x1E b e (eqb-false b 0x1E h)
+  two-from h = parted _ b e (λ z. eqb-false b 0x1E h (omega (arith, z)))
 
   two-crate : sizeByCrate b ≡ 2
   unfolding sizeByCrate among
@@ -72,7 +72,7 @@ module _ (b : ℕ) (e : partsTwo b ≡ true) where
 two-alike : (b : ℕ) → partsTwo b ≡ false → sizeByCrate b ≡ sizeByStandard b
 unfolding sizeByCrate sizeByStandard
 two-alike b e =
-    let n = not-parted 0x1E b e in
+    let n = not-parted _ b e in
     elim (decLt b 0x1F) [
       | yes p ↦ rw (inside 0 0x1D b (omega arith) (omega arith), below 0x1F 0x7F b p, below 0x81 0xFF b (omega arith))
       | no p ↦
@@ -108,7 +108,7 @@ two-alike b e =
 three-alike : (b : ℕ) → partsThree b ≡ false → thirdByCrate b ≡ leb b 0x7F
 unfolding thirdByCrate
 three-alike b e =
-    let n = not-parted 0x80 b e in
+    let n = not-parted _ b e in
     elim (decLe b 0x7F) [
       | yes p ↦ rw (below 0x81 0xFE b (omega arith), le-leb b 0x7F p)
       | no p ↦ rw (inside 0x81 0xFE b (omega arith) (omega arith), lt-leb b 0x7F (omega arith))
@@ -118,7 +118,7 @@ three-differ : (b : ℕ) → partsThree b ≡ true → (thirdByCrate b ≡ true)
 unfolding thirdByCrate among
 three-differ b e =
     by-test (eqb b 0x80) (λ h. let g : b ≡ 0x80 = eqb-true b 0x80 h in (rw g, rw g)) (λ h.
-    let g = parted 0x80 b e (eqb-false b 0x80 h) in
+    let g = parted _ b e (λ z. eqb-false b 0x80 h (omega (arith, z))) in
     (rw (above 0x81 0xFE b (omega arith) g), lt-leb b 0x7F (omega arith)))
 
 -- a tag that the crate takes for three bytes long
