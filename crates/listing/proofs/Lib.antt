@@ -1,10 +1,9 @@
-pub mod Decimal
 pub mod Writing
-pub mod Tags
-pub mod Form
-pub mod Commands
-pub mod Making
-pub mod Meeting
-pub mod Steps
-pub mod Onward
+pub mod Decimal
+pub mod Filling
+pub mod Sections
+pub mod Walking
+pub mod Small
+pub mod Longest
+pub mod Listed
 pub mod Single

@@ -1,5 +1,4 @@
-pub mod Inverse
-pub mod Listed
-pub mod Seen
-pub mod Longest
+pub mod Example
+pub mod Decimal
+pub mod Encoded
 pub mod Tags

@@ -1,45 +1,75 @@
--- A tag that was read is printed as its own bytes. Assumes nothing.
+-- A tag is printed as its own bytes. Assumes nothing.
 use Prim.Native.Nat.{ℕ, _+_, _-_, _*_, _/_, _%_, _≤_, _<_}
 use mathlib.Core.Path.{_≡_, refl, sym, ap, _∙_}
-use mathlib.Core.List.{List, [], _∷_, append-nil, append-assoc}
+use mathlib.Core.List.{List, [], _∷_, _++_, append-nil, append-assoc}
 use native.Mathlib.Omega.{arith}
 use lib.Dec.{ltb, leb, eqb}
 use lib.ListN.{length, getD, take, drop}
-use borrow.Author.Tests.{eqb-true, ltb-false}
-use Rattle.basis.specs.Reply.{is}
-use Rattle.basis.proofs.Reply.{All, all-cond, all-then, all-every, all-self, all-both}
+use lib.Seq.{drop-drop, getD-drop}
+use borrow.Author.Tests.{lt-ltb, le-ltb, eqb-true, ltb-false}
+use Rattle.basis.specs.Every.{Every}
 use Rattle.basis.specs.Number.{Bytes}
+use Rattle.basis.specs.Reply.{Reply, is, no, then}
+use Rattle.basis.proofs.Reply.{All, all-is, all-cond, all-then, all-every}
 use Rattle.tlv.specs.Tag.{Tag, sizeBy, thirdBy, threeBytes, longTag, tagOf}
 use Rattle.tlv.specs.Len.{lenOf}
-use Rattle.tlv.specs.Object.{Object, objectOf}
+use Rattle.tlv.specs.Object.{Object, sizeOf, objectIn, objectOf}
+use Rattle.tlv.specs.Walk.{walk}
 use Rattle.tlv.specs.declared.Reading.the-variants.{Crate}
-use Rattle.listing.specs.Text.{hex, hexes, tagText}
-use Rattle.listing.proofs.Tags.{tag-one, tag-two, tag-three}
+use Rattle.tlv.proofs.Walk.{walk-no, walk-met, by-objects}
+use Rattle.listing.specs.Text.{hexDigit, hex, piece, mark, filled, line, objectLine}
+use Rattle.listing_laws.specs.Tags.{hexes, Shown}
 
--- the text of a number is that of so many bytes at the front
+-- the line of an object whose tag is shown by so many characters
+abbrev around : ℕ → ℕ → List ℕ → ℕ → List ℕ
+around k j u n = line "%.% " (k ∷ j ∷ []) ++ (u ++ line " %\n" (n ∷ []))
+
+-- a form with one, two and three bytes
+module _ (k j n : ℕ) where
+  one : (a : ℕ) → line "%.% # %\n" (k ∷ j ∷ a ∷ n ∷ []) ≡ around k j (hex a) n
+  unfolding filled piece mark
+  one a = simp append-assoc
+
+  two : (a b : ℕ) → line "%.% ## %\n" (k ∷ j ∷ a ∷ b ∷ n ∷ []) ≡ around k j (hex a ++ hex b) n
+  unfolding filled piece mark
+  two a b = simp append-assoc
+
+  three : (a b c : ℕ) → line "%.% ### %\n" (k ∷ j ∷ a ∷ b ∷ c ∷ n ∷ []) ≡ around k j (hex a ++ (hex b ++ hex c)) n
+  unfolding filled piece mark
+  three a b c = simp append-assoc
+
+-- two hexadecimal digits show the low byte
+low : (a b : ℕ) → hex (a * 256 + b) ≡ hex b
+unfolding hex
+low a b =
+    let high : (a * 256 + b) / 16 % 16 ≡ b / 16 % 16 = omega arith in
+    let same : (a * 256 + b) % 16 ≡ b % 16 = omega arith in
+    rw (high, same)
+
+-- the line of an object whose tag is that number shows so many bytes at the front
 abbrev Own : List ℕ → ℕ → ℕ → Type 0
-Own s t n = tagText t ≡ hexes (take n s)
+Own s t n = (k j m : ℕ) → objectLine k j t m ≡ around k j (hexes (take n s)) m
 
-one-byte : (a : ℕ) → a < 256 → tagText a ≡ hexes (a ∷ [])
-unfolding hexes
-one-byte a h = sym (tag-one a h) ∙ ap hex (let e : a % 256 ≡ a = omega arith in e) ∙ sym (append-nil (hex a))
+one-byte : (k j m a : ℕ) → a < 256 → objectLine k j a m ≡ around k j (hexes (a ∷ [])) m
+unfolding objectLine hexes
+one-byte k j m a h = rw (lt-ltb a 256 h, append-nil) (one k j m a)
 
-two-bytes : (a b : ℕ) → a < 256 → b < 256 → a % 32 ≡ 31 → tagText (a * 256 + b) ≡ hexes (a ∷ b ∷ [])
-unfolding hexes
-two-bytes a b h g e =
+two-bytes : (k j m a b : ℕ) → a < 256 → b < 256 → a % 32 ≡ 31 → objectLine k j (a * 256 + b) m ≡ around k j (hexes (a ∷ b ∷ [])) m
+unfolding objectLine hexes
+two-bytes k j m a b h g e =
     let t = a * 256 + b in
-    let high : t / 256 % 256 ≡ a = omega arith in
-    let low : t % 256 ≡ b = omega arith in
-    sym (tag-two t (omega arith) (omega arith)) ∙ rw (high, low, append-nil)
+    let high : t / 256 ≡ a = omega arith in
+    rw (le-ltb t 256 (omega arith), lt-ltb t 65536 (omega arith), high, append-nil, ← low a b) (two k j m a t)
 
-three-bytes : (a b c : ℕ) → a < 256 → b < 256 → c < 256 → a % 32 ≡ 31 → tagText ((a * 256 + b) * 256 + c) ≡ hexes (a ∷ b ∷ c ∷ [])
-unfolding hexes
-three-bytes a b c h g f e =
+three-bytes : (k j m a b c : ℕ) → a < 256 → b < 256 → c < 256 → a % 32 ≡ 31
+    → objectLine k j ((a * 256 + b) * 256 + c) m ≡ around k j (hexes (a ∷ b ∷ c ∷ [])) m
+unfolding objectLine hexes
+three-bytes k j m a b c h g f e =
     let t = (a * 256 + b) * 256 + c in
-    let high : t / 65536 % 256 ≡ a = omega arith in
-    let middle : t / 256 % 256 ≡ b = omega arith in
-    let low : t % 256 ≡ c = omega arith in
-    sym (tag-three t (omega arith)) ∙ rw (high, middle, low, append-nil, append-assoc)
+    let high : t / 65536 ≡ a = omega arith in
+    let middle : t / 256 ≡ a * 256 + b = omega arith in
+    rw (le-ltb t 256 (omega arith), le-ltb t 65536 (omega arith), high, middle, append-nil, ← low a b, ← low (a * 256 + b) c)
+    (three k j m a (a * 256 + b) t)
 
 -- bytes at the front, as far as they are there
 front-one : (s : List ℕ) → 1 ≤ length s → take 1 s ≡ getD s 0 0 ∷ []
@@ -54,7 +84,7 @@ front-three : (s : List ℕ) → 3 ≤ length s → take 3 s ≡ getD s 0 0 ∷ 
 front-three [] h = absurd (omega arith)
 front-three (a ∷ s) h = ap (λ (l : List ℕ). a ∷ l) (front-two s (omega arith))
 
-pub tag-own : (s : List ℕ) → Bytes s → All (λ t. Own s (t .number) (t .size)) (tagOf Crate s)
+tag-own : (s : List ℕ) → Bytes s → All (λ t. Own s (t .number) (t .size)) (tagOf Crate s)
 unfolding tagOf longTag threeBytes
 tag-own s b =
     let P : Tag → Type 0 = λ t. Own s (t .number) (t .size) in
@@ -64,25 +94,50 @@ tag-own s b =
     (λ q. all-cond P (ltb (length s) 2) _ _ (λ _. tt)
     (λ g. all-cond P (eqb (sizeBy Crate (getD s 1 0)) 0) _ _ (λ _. tt)
     (λ _. all-cond P (eqb (sizeBy Crate (getD s 1 0)) 2) _ _
-    (λ _. two-bytes a (getD s 1 0) (b 0) (b 1) (eqb-true (a % 32) 31 q) ∙ ap hexes (sym (front-two s (ltb-false (length s) 2 g))))
+    (λ _ k j m. two-bytes k j m a (getD s 1 0) (b 0) (b 1) (eqb-true (a % 32) 31 q)
+    ∙ ap (λ (u : List ℕ). around k j (hexes u) m) (sym (front-two s (ltb-false (length s) 2 g))))
     (λ _. all-cond P (ltb (length s) 3) _ _ (λ _. tt)
     (λ f. all-cond P (thirdBy Crate (getD s 2 0)) _ _
-    (λ _. three-bytes a (getD s 1 0) (getD s 2 0) (b 0) (b 1) (b 2) (eqb-true (a % 32) 31 q)
-    ∙ ap hexes (sym (front-three s (ltb-false (length s) 3 f))))
+    (λ _ k j m. three-bytes k j m a (getD s 1 0) (getD s 2 0) (b 0) (b 1) (b 2) (eqb-true (a % 32) 31 q)
+    ∙ ap (λ (u : List ℕ). around k j (hexes u) m) (sym (front-three s (ltb-false (length s) 3 f))))
     (λ _. tt))))))
-    (λ _. one-byte a (b 0) ∙ ap hexes (sym (front-one s (ltb-false (length s) 1 h)))))
+    (λ _ k j m. one-byte k j m a (b 0) ∙ ap (λ (u : List ℕ). around k j (hexes u) m) (sym (front-one s (ltb-false (length s) 1 h)))))
 
--- so is the tag of an object: all the bytes of the tag that was read there, and no others
-pub record Front (s : List ℕ) (o : Object) : Type 0 where
-  pub tag : Tag
-  pub read : tagOf Crate s ≡ is tag
-  pub text : tagText (o .tag) ≡ hexes (take (tag .size) s)
+-- so is the tag of an object at the front
+record Front (s : List ℕ) (o : Object) : Type 0 where
+  tag : Tag
+  read : tagOf Crate s ≡ is tag
+  own : Own s (o .tag) (tag .size)
 
-pub object-own : (s : List ℕ) → Bytes s → All (Front s) (objectOf Crate s)
-unfolding objectOf
-object-own s b =
-    all-then (Front s) (λ t. (tagOf Crate s ≡ is t) × Own s (t .number) (t .size)) (tagOf Crate s) _
-    (all-both (λ t. tagOf Crate s ≡ is t) (λ t. Own s (t .number) (t .size)) (tagOf Crate s) (all-self (tagOf Crate s)) (tag-own s b))
-    (λ t h. all-then (Front s) (λ l. Unit {0}) (lenOf Crate (drop (t .size) s)) _
-    (all-every (λ l. Unit {0}) (lenOf Crate (drop (t .size) s)) (λ l. tt))
-    (λ l _. all-cond (Front s) (leb (l .number) (length s - (t .size + l .size))) _ _ (λ _. record { tag = t; read = h .0; text = h .1 }) (λ _. tt)))
+module _ (s : List ℕ) (b : Bytes s) where
+  in-tag : (x : Reply Tag) → tagOf Crate s ≡ x → All (Front s) (then x (λ t. then (lenOf Crate (drop (t .size) s)) (objectIn (length s) t)))
+  in-tag (is t) e =
+      let own = all-is (λ y. Own s (y .number) (y .size)) (tagOf Crate s) t (tag-own s b) e in
+      all-then (Front s) (λ l. Unit {0}) (lenOf Crate (drop (t .size) s)) _
+      (all-every (λ l. Unit {0}) (lenOf Crate (drop (t .size) s)) (λ l. tt))
+      (λ l _. all-cond (Front s) (leb (l .number) (length s - (t .size + l .size))) _ _ (λ _. record { tag = t; read = e; own = own }) (λ _. tt))
+  in-tag (no k) e = tt
+
+  object-own : (o : Object) → objectOf Crate s ≡ is o → Front s o
+  unfolding objectOf
+  object-own o e = all-is (Front s) (objectOf Crate s) o (in-tag (tagOf Crate s) refl) e
+
+-- and of every object of a record
+shown-from : (a : ℕ) (s : List ℕ) (w : List ℕ) → Bytes w → drop a w ≡ s → (k j : ℕ) → Every (Shown k j w) (walk Crate a s .items)
+shown-from =
+    by-objects Crate (λ a s. (w : List ℕ) → Bytes w → drop a w ≡ s → (k j : ℕ) → Every (Shown k j w) (walk Crate a s .items))
+    (λ a s r e w b q k j. rw (walk-no Crate a s r e) tt)
+    (λ a s o e w′ deeper w b q k j.
+    let small : Bytes s = λ i. rw (sym q) (omega (arith, b (a + i), getD-drop a w i 0)) in
+    let f = object-own s small o e in
+    rw (walk-met Crate a s o e) (
+      record {
+        tag = f .tag;
+        read = ap (tagOf Crate) q ∙ f .read;
+        text = f .own k j (o .len) ∙ ap (λ (l : List ℕ). around k j (hexes (take (f .tag .size) l)) (o .len)) (sym q);
+      },
+      deeper w b (sym (drop-drop (sizeOf o) a w) ∙ ap (λ (l : List ℕ). drop (sizeOf o) l) q) k j,
+    ))
+
+pub tags-shown : (s : List ℕ) → Bytes s → (k j : ℕ) → Every (Shown k j s) (walk Crate 0 s .items)
+tags-shown s b k j = shown-from 0 s s b refl k j

@@ -1,17 +1,18 @@
 use borrow.Author.Needs.{needs}
 use native.Mathlib.Omega.{arith}
-use Prim.Native.Nat.{ℕ, _/_, _<_, _≤_}
+use Prim.Native.Nat.{ℕ, _/_, _<_}
 use mathlib.Core.Path.{sym, ap, _∙_}
 use mathlib.Core.List.{[], _∷_, _++_}
+use lib.ListN.{length}
 use borrow.Fn.Kinds.{In}
 use borrow.Fn.PlainCycle.{Measures, is, falls, and}
 use Rattle.listing.specs.Text.{decimal}
-use Rattle.listing.proofs.Decimal.{decimal-one, decimal-more, length-more, at-most-five}
-use Rattle.listing.proofs.Writing.{puts-next, puts-as, puts-most, puts-five}
+use Rattle.listing.proofs.Writing.{puts-next, puts-as}
+use Rattle.listing.proofs.Decimal.{decimal-one, decimal-more, length-more}
 use Rattle.listing.proofs.text.put_decimal.Reads as put-decimal
 use Rattle.listing.proofs.text.put_decimal.Kinds as put-decimal-kinds
 use Rattle.listing.proofs.text.+put_decimal.Lts-put_decimal as put-decimal-lts
-use Rattle.listing.proofs.text.digit.Reads as digit-reads
+use Rattle.listing.proofs.text.hex_digit.Reads as hex-digit-reads
 use Rattle.listing.proofs.text.put_byte.Reads as put-byte-reads
 use Rattle.listing.proofs.text.+put_decimal.{statement}
 use Rattle.listing.proofs.text.+put_decimal.Tie.{close}
@@ -29,59 +30,48 @@ put-decimal-below t = and 1 put-decimal-kinds.ps (falls 1 put-decimal-kinds.ps _
 
 -- what the calls ask and promise
 abbrev claims : ℕ → put-decimal-lts.Claims
-claims t = (digit-reads.Asked, digit-reads.Learnt, put-byte-reads.Asked, put-byte-reads.Learnt, put-decimal-below t, put-decimal.Post)
+claims t = (hex-digit-reads.Asked, hex-digit-reads.Learnt, put-byte-reads.Asked, put-byte-reads.Learnt, put-decimal-below t, put-decimal.Post)
+
+put-byte-requires : (t : ℕ) → put-decimal-lts.Need-put-byte-requires (claims t) (put-decimal-at t) put-decimal.Post
+put-byte-requires t c κs =
+    let b = c .before .before in
+    let p = b .before .before in
+    omega (arith, p .pre .1, ap length (decimal-one (p .args .n) (b .if1 .taken)))
 
 put-decimal-returns : (t : ℕ) → put-decimal-lts.Need-returns (claims t) (put-decimal-at t) put-decimal.Post
 put-decimal-returns t c =
-    let c2 = c .before .before in
-    let c3 = c2 .before in
-    let c5 = c3 .before .before in
-    let c7 = c5 .before .before in
-    let a = c7 .args in
-    puts-most 5 (omega arith)
-    (puts-as (decimal (a .n))
-    (ap (λ (x : ℕ). x ∷ []) (c3 .digit .ensures) ∙ sym (decimal-one (a .n) (omega (arith, c5 .if1 .taken))))
-    (c2 .put-byte .ensures))
+    let p = c .before .before in
+    let b = p .before .before .before in
+    puts-as (ap (λ (x : ℕ). x ∷ []) (p .before .hex-digit .ensures) ∙ sym (decimal-one (b .before .before .args .n) (b .if1 .taken)))
+    (p .put-byte .ensures)
 
 put-decimal-requires : (t : ℕ) → put-decimal-lts.Need-put-decimal-requires (claims t) (put-decimal-at t) put-decimal.Post
 put-decimal-requires t c κs =
-    let p = c .before .before .before .pre in
-    (omega (arith, p .0, c .before .if1 .left), (omega (arith, p .1), omega (arith, p .1)))
+    let b = c .before in
+    let p = b .before .before in
+    (omega (arith, p .pre .0, b .if1 .left), omega (arith, p .pre .1, length-more (p .args .n) (b .if1 .left)))
 
 put-byte-requires-2 : (t : ℕ) → put-decimal-lts.Need-put-byte-requires-2 (claims t) (put-decimal-at t) put-decimal.Post
 put-byte-requires-2 t c κs =
-    let c4 = c .before .before .before .before in
-    let c6 = c4 .before .before in
-    let c8 = c6 .before .before in
-    let n = c8 .args .n in
-    omega (
-      arith,
-      c4 .put-decimal .ensures .behind,
-      c4 .put-decimal .ensures .same,
-      length-more n (omega (arith, c6 .if1 .left)),
-      at-most-five n (omega (arith, c8 .pre .1)),
-      c8 .pre .1,
-    )
+    let q = c .before .before .before .before in
+    let b = q .before .before in
+    let p = b .before .before in
+    omega (arith, q .put-decimal .ensures .behind, q .put-decimal .ensures .same, p .pre .1, length-more (p .args .n) (b .if1 .left))
 
 put-decimal-returns-2 : (t : ℕ) → put-decimal-lts.Need-returns-2 (claims t) (put-decimal-at t) put-decimal.Post
 put-decimal-returns-2 t c =
-    let c2 = c .before .before in
-    let c3 = c2 .before in
-    let c7 = c3 .before .before .before .before in
-    let c9 = c7 .before .before in
-    let c11 = c9 .before .before in
-    let n = c11 .args .n in
-    let more : 10 ≤ n = omega (arith, c9 .if1 .left) in
-    puts-five n (omega (arith, c11 .pre .1))
-    (puts-as (decimal n)
-    (ap (λ (x : ℕ). decimal (n / 10) ++ (x ∷ [])) (c3 .digit2 .ensures) ∙ sym (decimal-more n more))
-    (puts-next (omega (arith, c11 .pre .1)) (c7 .put-decimal .ensures) (c2 .put-byte2 .ensures)))
+    let p = c .before .before in
+    let q = p .before .before .before .before .before in
+    let b = q .before .before in
+    let n = b .before .before .args .n in
+    puts-as (ap (λ (x : ℕ). decimal (n / 10) ++ (x ∷ [])) (p .before .hex-digit2 .ensures) ∙ sym (decimal-more n (b .if1 .left)))
+    (puts-next (omega (arith, b .before .before .pre .1)) (q .put-decimal .ensures) (p .put-byte2 .ensures))
 
 pub +put-decimal-spec : {M : Type 1} → statement M
 +put-decimal-spec =
     close μ-put-decimal (λ t. put-decimal-lts.spec (claims t) (put-decimal-at t) put-decimal.Post
     (λ c κs. search needs)
-    (λ c κs. omega (arith, c .before .before .before .before .pre .1))
+    (put-byte-requires t)
     (λ c. search needs)
     (put-decimal-returns t)
     (put-decimal-requires t)

@@ -1,0 +1,140 @@
+use borrow.Author.Needs.{needs}
+use native.Mathlib.Omega.{arith}
+use Prim.Native.Nat.{ℕ, _+_, _-_, _≤_}
+use mathlib.Core.Path.{_≡_, sym, ap, _∙_}
+use mathlib.Core.List.{List, [], _∷_, _++_}
+use lib.ListN.{length, drop, length-drop}
+use lib.Seq.{drop-drop}
+use Rattle.basis.specs.Reply.{is}
+use Rattle.basis.proofs.Part.{rest-is}
+use Rattle.basis.proofs.Reply.{all-is}
+use Rattle.tlv.specs.Object.{Object, sizeOf, objectOf, said}
+use Rattle.tlv.specs.declared.Reading.the-variants.{Crate}
+use Rattle.tlv.proofs.Within.{Ends, object-within}
+use Rattle.listing.specs.Text.{line, objectLine, objectLines}
+use Rattle.listing.proofs.Writing.{Left, left-first, left-as, left-room, left-next, left-none}
+use Rattle.listing.proofs.Walking.{linesFrom, lines-first, lines-end, lines-12, lines-next}
+use Rattle.listing.proofs.lines.put_objects.Statement.{statement}
+use Rattle.listing.proofs.lines.put_objects.Tie as tie
+
+-- the lines of the objects from the place on are still to be written
+abbrev Inv-loop : tie.InvT-loop
+Inv-loop out₀ start k «record» place₀ at₀ j₀ t11 out place at j =
+    Left (objectLines k «record») start out₀ (linesFrom k j at (drop at «record»)) place out × (at ≤ length «record») × (j ≤ at + 1)
+
+abbrev μ-loop : tie.MeasureT-loop
+μ-loop out₀ start k «record» place₀ at₀ j₀ t11 out place at j = length «record» - at
+
+-- what is left of the record in a turn, and what was read there
+abbrev Turn : Type 0
+Turn = tie.After-take-data-object Inv-loop μ-loop
+
+abbrev rest : Turn → List ℕ
+rest c = drop (c .before .before .loop .at) (c .before .before .before .before .before .args .«record» .now)
+
+read : (c : Turn) → objectOf Crate (rest c) ≡ said (c .take-data-object .result)
+read c = sym (rw rest-is at (c .take-data-object .ensures))
+
+-- an object that was read
+abbrev Met : Type 0
+Met = tie.After-tag Inv-loop μ-loop
+
+abbrev turn : Met → Turn
+turn c = c .before .before
+
+abbrev object : Met → Object
+object c = let g = c .tag .given .0 in record { tag = g .0; at = g .1 .0; len = g .1 .1 .0 }
+
+met : (c : Met) → objectOf Crate (rest (turn c)) ≡ is (object c)
+met c = read (turn c) ∙ ap said (c .tag .given .1)
+
+ends : (c : Met) → Ends (length (rest (turn c))) (object c)
+ends c = all-is (Ends (length (rest (turn c)))) (objectOf Crate (rest (turn c))) (object c) (object-within Crate (rest (turn c))) (met c)
+
+inside : (c : Met) → let l = turn c .before .before in
+    l .loop .at + sizeOf (object c) ≤ length (l .before .before .before .args .«record» .now)
+inside c =
+    let l = turn c .before .before in
+    omega (arith, ends c .1, length-drop (l .loop .at) (l .before .before .before .args .«record» .now), l .loop .inv .1)
+
+-- an object's line is next, and the lines behind it
+abbrev further : Met → List ℕ
+further c =
+    let l = turn c .before .before in
+    linesFrom (l .before .before .before .args .k) (l .loop .j + 1) (l .loop .at + sizeOf (object c)) (drop (sizeOf (object c)) (rest (turn c)))
+
+next : (c : Met) → let l = turn c .before .before in let a = l .before .before .before .args in
+    Left (objectLines (a .k) (a .«record» .now)) (a .start) (a .out .now)
+    (objectLine (a .k) (l .loop .j) (object c .tag) (object c .len) ++ further c) (l .loop .place) (l .loop .out)
+next c =
+    let l = turn c .before .before in
+    left-as (lines-next (l .before .before .before .args .k) (l .loop .j) (l .loop .at) (rest (turn c)) (object c) (met c)) (l .loop .inv .0)
+
+returns : tie.Need-returns Inv-loop μ-loop
+returns c =
+    let t = c .before .before in
+    let l = t .before .before in
+    left-none (left-as (lines-end (l .before .before .before .args .k) (l .loop .j) (l .loop .at) (rest t) (read t ∙ ap said (c .enum-told .given .1))) (l .loop .inv .0))
+
+-- an object that cannot be read: its line is the last
+last : (c : tie.After-enum-told2 Inv-loop μ-loop) → let l = c .before .before .before .before in let a = l .before .before .before .args in
+    Left (objectLines (a .k) (a .«record» .now)) (a .start) (a .out .now) (line "%.% refused %\n" (a .k ∷ l .loop .j ∷ 12 ∷ [])) (l .loop .place) (l .loop .out)
+last c =
+    let t = c .before .before in
+    let l = t .before .before in
+    left-as (lines-12 (l .before .before .before .args .k) (l .loop .j) (l .loop .at) (rest t) (read t ∙ ap said (c .enum-told2 .given .1))) (l .loop .inv .0)
+
+fill-requires : tie.Need-fill-requires Inv-loop μ-loop
+fill-requires c κs = last (c .before .before .before) .room
+
+returns-2 : tie.Need-returns-2 Inv-loop μ-loop
+returns-2 c = let p = c .before .before in last (p .before .before .before .before) .rest _ _ (p .fill .ensures)
+
+object-line-requires : tie.Need-object-line-requires Inv-loop μ-loop
+object-line-requires c κs =
+    let m = c .before .before in
+    let l = turn m .before .before in
+    left-room (objectLine (l .before .before .before .args .k) (l .loop .j) (object m .tag) (object m .len)) (further m) (next m)
+
+loop-again : tie.Need-loop-again Inv-loop μ-loop
+loop-again c =
+    let p = c .before .before in
+    let m = p .before .before .before in
+    let l = turn m .before .before in
+    let s = l .before .before .before .args .«record» .now in (
+      rw (drop-drop (sizeOf (object m)) (l .loop .at) s) at (left-next (next m) (p .object-line .ensures)),
+      inside m,
+      omega (arith, ends m .0, l .loop .inv .2),
+    )
+
+pub put-objects-spec : {M : Type 1} → statement M
+put-objects-spec =
+    tie.close
+    (tie.spec
+    Inv-loop
+    μ-loop
+    (λ c.
+    let a = c .before .before .args in
+    (left-as (lines-first (a .k) (a .«record» .now)) (left-first _ (a .start) (a .out .now) (c .before .before .pre)), omega arith, omega arith))
+    (λ c. search needs)
+    (λ c. search needs)
+    (λ c. search needs)
+    (λ c κs. search needs)
+    (λ c. search needs)
+    (λ c. returns c .same)
+    returns
+    (λ c. search needs)
+    (λ c. search needs)
+    (λ c. search needs)
+    fill-requires
+    (λ c. returns-2 c .same)
+    returns-2
+    (λ c. search needs)
+    object-line-requires
+    (λ c. omega (arith, inside (c .before .before .before .before .before)))
+    (λ c. omega (arith, inside (c .before .before .before .before .before)))
+    (λ c. omega (arith, c .before .before .before .before .before .before .before .before .before .loop .inv .2))
+    (λ c.
+    let m = c .before .before .before .before .before in
+    omega (arith, inside m, ends m .0))
+    loop-again)
