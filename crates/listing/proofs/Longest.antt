@@ -164,22 +164,26 @@ formed-is s e =
     let p = both (leb (length s) 60000) (eqb (sectionSize s + sectionSize (drop (sectionSize s) s)) (length s)) e in
     (leb-true (length s) 60000 (p .0), eqb-true (sectionSize s + sectionSize (drop (sectionSize s) s)) (length s) (p .1))
 
-pub text-few : (s : List ℕ) → Bytes s → length (textOf s) ≤ 780000
-unfolding textOf mark
-text-few s b = by (formed s) refl
-  where
-    by : (x : Bool) → formed s ≡ x
-        → length (cond x (sectionText Commands (itemsAt s) ++ sectionText Records (itemsAt (drop (sectionSize s) s))) (line "refused %\n" (20 ∷ [])))
-        ≤ 780000
-    by true e =
-        let f = formed-is s e in
-        let m = sectionSize s in
-        omega (
-          arith,
-          length-append (sectionText Commands (itemsAt s)) (sectionText Records (itemsAt (drop m s))),
-          section-few Commands s b (f .0) (omega (arith, f)),
-          section-few Records (drop m s) (bytes-drop m s b) (omega (arith, f, length-drop m s)) (omega (arith, f)),
-          f,
-        )
-    by false e =
-        let h : length (line "refused %\n" (20 ∷ [])) ≤ 14 = line-few "refused %\n" (20 ∷ []) (omega arith, tt) in omega arith
+module _ (s : List ℕ) (b : Bytes s) where
+  both-few : formed s ≡ true → length (sectionText Commands (itemsAt s) ++ sectionText Records (itemsAt (drop (sectionSize s) s))) ≤ 13 * length s
+  both-few e =
+      let f = formed-is s e in
+      let m = sectionSize s in
+      omega (
+        arith,
+        length-append (sectionText Commands (itemsAt s)) (sectionText Records (itemsAt (drop m s))),
+        section-few Commands s b (f .0) (omega (arith, f)),
+        section-few Records (drop m s) (bytes-drop m s b) (omega (arith, f, length-drop m s)) (omega (arith, f)),
+        f,
+      )
+
+  text-by : (x : Bool) → formed s ≡ x
+      → length (cond x (sectionText Commands (itemsAt s) ++ sectionText Records (itemsAt (drop (sectionSize s) s))) (line "refused %\n" (20 ∷ [])))
+      ≤ 780000
+  unfolding mark
+  text-by true e = omega (arith, both-few e, formed-is s e)
+  text-by false e = let h : length (line "refused %\n" (20 ∷ [])) ≤ 14 = line-few "refused %\n" (20 ∷ []) (omega arith, tt) in omega arith
+
+  pub text-few : length (textOf s) ≤ 780000
+  unfolding textOf
+  text-few = text-by (formed s) refl

@@ -1,10 +1,12 @@
 -- Laws of the lines of commands and records. Assumes nothing.
-use Prim.Native.Nat.{ℕ, _+_, _-_}
+use Prim.Native.Nat.{ℕ, _+_, _-_, _/_, _≤_, _<_}
 use mathlib.Core.Path.{_≡_, refl, sym, ap}
 use mathlib.Core.Bool.{cond}
 use mathlib.Core.List.{List, [], _∷_, _++_}
+use native.Mathlib.Omega.{arith}
 use lib.Dec.{eqb}
 use lib.ListN.{take, drop}
+use borrow.Author.Tests.{lt-ltb, le-ltb}
 use Rattle.basis.specs.Reply.{is, no}
 use Rattle.class.specs.declared.Reading.the-variants as class-reading
 use Rattle.command.specs.Command.{parse}
@@ -29,6 +31,20 @@ module _ (k : ℕ) (s : List ℕ) where
       → line (viewForm v) (viewNumbers k v) ≡ commandLine k s
   unfolding commandLine
   view-line v e = ap (viewLine k) (sym e)
+
+-- the line of an object, by how many bytes its tag has
+module _ (k j t n : ℕ) where
+  pub line-one : t < 256 → line "%.% # %\n" (k ∷ j ∷ t ∷ n ∷ []) ≡ objectLine k j t n
+  unfolding objectLine
+  line-one h = rw (lt-ltb t 256 h)
+
+  pub line-two : 256 ≤ t → t < 65536 → line "%.% ## %\n" (k ∷ j ∷ t / 256 ∷ t ∷ n ∷ []) ≡ objectLine k j t n
+  unfolding objectLine
+  line-two h g = rw (le-ltb t 256 h, lt-ltb t 65536 g)
+
+  pub line-three : 65536 ≤ t → line "%.% ### %\n" (k ∷ j ∷ t / 65536 ∷ t / 256 ∷ t ∷ n ∷ []) ≡ objectLine k j t n
+  unfolding objectLine
+  line-three h = rw (le-ltb t 256 (omega (arith, h)), le-ltb t 65536 h)
 
 -- the lines of record k from its object j on, which starts at place a of the record, at the front of s
 abbrev pub linesFrom : ℕ → ℕ → ℕ → List ℕ → List ℕ

@@ -1,7 +1,7 @@
 // Text written into a lent buffer from a place. Each function gives the place behind what it wrote.
 ghost use mathlib.Core.Path.{_≡_};
 ghost use mathlib.Core.List.{[], _∷_};
-ghost use Prim.Native.Nat.{_+_, _%_, _≤_, _<_};
+ghost use Prim.Native.Nat.{_+_, _≤_, _<_};
 ghost use lib.ListN.{length, getD};
 ghost use Rattle.listing.specs.Text.{Puts, decimal, hexDigit, hex, mark, piece, filled};
 

@@ -4,9 +4,8 @@ use mathlib.Core.Path.{_≡_, sym, ap, _∙_}
 use mathlib.Core.List.{List, [], _∷_, _++_}
 use native.Mathlib.Decide.{decLe}
 use native.Mathlib.Omega.{arith}
-use lib.ListN.{length, getD, List·getD-append}
+use lib.ListN.{length, List·getD-append}
 use borrow.Author.Tests.{lt-ltb}
-use Rattle.basis.specs.Every.{Every}
 use Rattle.basis.proofs.Every.{every-append}
 use Rattle.listing.specs.Text.{hexDigit, decimal}
 use Rattle.listing.proofs.Decimal.{decimal-one, decimal-more, length-more}

@@ -6,7 +6,7 @@ use native.Mathlib.Omega.{arith}
 use lib.Dec.{ltb, leb, eqb}
 use lib.ListN.{length, getD, take, drop}
 use lib.Seq.{drop-drop, getD-drop}
-use borrow.Author.Tests.{lt-ltb, le-ltb, eqb-true, ltb-false}
+use borrow.Author.Tests.{eqb-true, ltb-false}
 use Rattle.basis.specs.Every.{Every}
 use Rattle.basis.specs.Number.{Bytes}
 use Rattle.basis.specs.Reply.{Reply, is, no, then}
@@ -17,7 +17,8 @@ use Rattle.tlv.specs.Object.{Object, sizeOf, objectIn, objectOf}
 use Rattle.tlv.specs.Walk.{walk}
 use Rattle.tlv.specs.declared.Reading.the-variants.{Crate}
 use Rattle.tlv.proofs.Walk.{walk-no, walk-met, by-objects}
-use Rattle.listing.specs.Text.{hexDigit, hex, piece, mark, filled, line, objectLine}
+use Rattle.listing.specs.Text.{hex, piece, mark, filled, line, objectLine}
+use Rattle.listing.proofs.Walking.{line-one, line-two, line-three}
 use Rattle.listing_laws.specs.Tags.{hexes, Shown}
 
 -- the line of an object whose tag is shown by so many characters
@@ -51,25 +52,28 @@ abbrev Own : List ℕ → ℕ → ℕ → Type 0
 Own s t n = (k j m : ℕ) → objectLine k j t m ≡ around k j (hexes (take n s)) m
 
 one-byte : (k j m a : ℕ) → a < 256 → objectLine k j a m ≡ around k j (hexes (a ∷ [])) m
-unfolding objectLine hexes
-one-byte k j m a h = rw (lt-ltb a 256 h, append-nil) (one k j m a)
+unfolding hexes
+one-byte k j m a h = sym (line-one k j a m h) ∙ one k j m a ∙ ap (λ (u : List ℕ). around k j u m) (sym (append-nil (hex a)))
 
 two-bytes : (k j m a b : ℕ) → a < 256 → b < 256 → a % 32 ≡ 31 → objectLine k j (a * 256 + b) m ≡ around k j (hexes (a ∷ b ∷ [])) m
-unfolding objectLine hexes
+unfolding hexes
 two-bytes k j m a b h g e =
     let t = a * 256 + b in
     let high : t / 256 ≡ a = omega arith in
-    rw (le-ltb t 256 (omega arith), lt-ltb t 65536 (omega arith), high, append-nil, ← low a b) (two k j m a t)
+    let same : hex (t / 256) ++ hex t ≡ hexes (a ∷ b ∷ []) = rw (high, low a b, append-nil) in
+    sym (line-two k j t m (omega arith) (omega arith)) ∙ two k j m (t / 256) t
+    ∙ ap (λ (u : List ℕ). around k j u m) same
 
 three-bytes : (k j m a b c : ℕ) → a < 256 → b < 256 → c < 256 → a % 32 ≡ 31
     → objectLine k j ((a * 256 + b) * 256 + c) m ≡ around k j (hexes (a ∷ b ∷ c ∷ [])) m
-unfolding objectLine hexes
+unfolding hexes
 three-bytes k j m a b c h g f e =
     let t = (a * 256 + b) * 256 + c in
     let high : t / 65536 ≡ a = omega arith in
     let middle : t / 256 ≡ a * 256 + b = omega arith in
-    rw (le-ltb t 256 (omega arith), le-ltb t 65536 (omega arith), high, middle, append-nil, ← low a b, ← low (a * 256 + b) c)
-    (three k j m a (a * 256 + b) t)
+    let same : hex (t / 65536) ++ (hex (t / 256) ++ hex t) ≡ hexes (a ∷ b ∷ c ∷ []) = rw (high, middle, low a b, low (a * 256 + b) c, append-nil) in
+    sym (line-three k j t m (omega arith)) ∙ three k j m (t / 65536) (t / 256) t
+    ∙ ap (λ (u : List ℕ). around k j u m) same
 
 -- bytes at the front, as far as they are there
 front-one : (s : List ℕ) → 1 ≤ length s → take 1 s ≡ getD s 0 0 ∷ []

@@ -1,7 +1,6 @@
 use borrow.Author.Needs.{needs}
 use native.Mathlib.Omega.{arith}
 use Prim.Native.Nat.{ℕ, _+_, _-_, _≤_}
-use mathlib.Core.Path.{_≡_, sym, _∙_}
 use mathlib.Core.List.{List, _++_}
 use lib.ListN.{length, take, drop}
 use Rattle.listing.specs.Input.{items, itemsSize}
@@ -63,13 +62,19 @@ returns c =
     let a = c .before .before .before .before .args in
     left-none (left-as (text-none (a .section) (l .k) (a .input .now) (l .at) (l .left) (c .loop-test .left)) (l .inv .0))
 
+loop-holds : tie.Need-loop-holds Inv-loop μ-loop
+loop-holds c =
+    let a = c .before .before .args in
+    let p = c .before .before .pre in
+    (left-first (itemsText (a .section) 1 (items (a .count) (drop (a .from) (a .input .now)))) (a .start) (a .out .now) (p .1 .1), p .0 .1, omega (arith, p .0 .0))
+
 pub put-items-spec : {M : Type 1} → statement M
 put-items-spec =
     tie.close
     (tie.spec
     Inv-loop
     μ-loop
-    (λ c. let p = c .before .before .pre in (left-first _ _ _ (p .1 .1), p .0 .1, omega (arith, p .0 .0)))
+    loop-holds
     (λ c. omega arith)
     (λ c κs. omega arith)
     (λ c. omega (arith, ends c))

@@ -107,15 +107,19 @@ loop-again c =
       omega (arith, ends m .0, l .loop .inv .2),
     )
 
+loop-holds : tie.Need-loop-holds Inv-loop μ-loop
+loop-holds c =
+    let a = c .before .before .args in
+    let whole = left-first (objectLines (a .k) (a .«record» .now)) (a .start) (a .out .now) (c .before .before .pre) in
+    (left-as (lines-first (a .k) (a .«record» .now)) whole, omega arith, omega arith)
+
 pub put-objects-spec : {M : Type 1} → statement M
 put-objects-spec =
     tie.close
     (tie.spec
     Inv-loop
     μ-loop
-    (λ c.
-    let a = c .before .before .args in
-    (left-as (lines-first (a .k) (a .«record» .now)) (left-first _ (a .start) (a .out .now) (c .before .before .pre)), omega arith, omega arith))
+    loop-holds
     (λ c. search needs)
     (λ c. search needs)
     (λ c. search needs)

@@ -36,27 +36,27 @@ put-byte-requires : (t : ℕ) → put-decimal-lts.Need-put-byte-requires (claims
 put-byte-requires t c κs =
     let b = c .before .before in
     let p = b .before .before in
-    omega (arith, p .pre .1, ap length (decimal-one (p .args .n) (b .if1 .taken)))
+    omega (arith, p .pre .1, ap length (decimal-one (p .args .n) (omega (arith, b .if1 .taken))))
 
 put-decimal-returns : (t : ℕ) → put-decimal-lts.Need-returns (claims t) (put-decimal-at t) put-decimal.Post
 put-decimal-returns t c =
     let p = c .before .before in
     let b = p .before .before .before in
-    puts-as (ap (λ (x : ℕ). x ∷ []) (p .before .hex-digit .ensures) ∙ sym (decimal-one (b .before .before .args .n) (b .if1 .taken)))
+    puts-as (ap (λ (x : ℕ). x ∷ []) (p .before .hex-digit .ensures) ∙ sym (decimal-one (b .before .before .args .n) (omega (arith, b .if1 .taken))))
     (p .put-byte .ensures)
 
 put-decimal-requires : (t : ℕ) → put-decimal-lts.Need-put-decimal-requires (claims t) (put-decimal-at t) put-decimal.Post
 put-decimal-requires t c κs =
     let b = c .before in
     let p = b .before .before in
-    (omega (arith, p .pre .0, b .if1 .left), omega (arith, p .pre .1, length-more (p .args .n) (b .if1 .left)))
+    (omega (arith, p .pre .0, b .if1 .left), omega (arith, p .pre .1, length-more (p .args .n) (omega (arith, b .if1 .left))))
 
 put-byte-requires-2 : (t : ℕ) → put-decimal-lts.Need-put-byte-requires-2 (claims t) (put-decimal-at t) put-decimal.Post
 put-byte-requires-2 t c κs =
     let q = c .before .before .before .before in
     let b = q .before .before in
     let p = b .before .before in
-    omega (arith, q .put-decimal .ensures .behind, q .put-decimal .ensures .same, p .pre .1, length-more (p .args .n) (b .if1 .left))
+    omega (arith, q .put-decimal .ensures .behind, q .put-decimal .ensures .same, p .pre .1, length-more (p .args .n) (omega (arith, b .if1 .left)))
 
 put-decimal-returns-2 : (t : ℕ) → put-decimal-lts.Need-returns-2 (claims t) (put-decimal-at t) put-decimal.Post
 put-decimal-returns-2 t c =
@@ -64,7 +64,7 @@ put-decimal-returns-2 t c =
     let q = p .before .before .before .before .before in
     let b = q .before .before in
     let n = b .before .before .args .n in
-    puts-as (ap (λ (x : ℕ). decimal (n / 10) ++ (x ∷ [])) (p .before .hex-digit2 .ensures) ∙ sym (decimal-more n (b .if1 .left)))
+    puts-as (ap (λ (x : ℕ). decimal (n / 10) ++ (x ∷ [])) (p .before .hex-digit2 .ensures) ∙ sym (decimal-more n (omega (arith, b .if1 .left))))
     (puts-next (omega (arith, b .before .before .pre .1)) (q .put-decimal .ensures) (p .put-byte2 .ensures))
 
 pub +put-decimal-spec : {M : Type 1} → statement M

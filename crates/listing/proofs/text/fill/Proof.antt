@@ -1,7 +1,7 @@
 use borrow.Author.Needs.{needs}
 use native.Mathlib.Omega.{arith}
 use Prim.Native.Nat.{ℕ, _+_, _-_, _≤_}
-use mathlib.Core.Path.{_∙_, sym, ap}
+use mathlib.Core.Path.{sym, ap}
 use mathlib.Core.List.{List}
 use lib.ListN.{length, getD, drop}
 use Rattle.listing.specs.Text.{piece, mark, filled}
@@ -55,13 +55,18 @@ returns c =
     let a = l .before .before .before .before .args in
     left-none (left-as (filled-done (a .form .now) (drop (l .loop .j) (a .numbers .now)) (l .loop .i) (c .loop-test .left)) (l .loop .inv .0))
 
+loop-holds : tie.Need-loop-holds Inv-loop μ-loop
+loop-holds c =
+    let a = c .before .before .before in
+    (left-first (filled (a .args .form .now) (a .args .numbers .now)) (a .args .at) (a .args .out .now) (a .pre), omega arith, omega arith)
+
 pub fill-spec : {M : Type 1} → statement M
 fill-spec =
     tie.close
     (tie.spec
     Inv-loop
     μ-loop
-    (λ c. (left-first _ _ _ (c .before .before .before .pre), omega arith, omega arith))
+    loop-holds
     (λ c. omega arith)
     (λ c κs. search needs)
     put-piece-requires
