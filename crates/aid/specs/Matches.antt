@@ -1,18 +1,17 @@
 -- Matching a name. Document 01, "Class and AID": a prefix of the AID, at least as long as the truncated length.
 use Prim.Native.Nat.{ℕ}
 use mathlib.Core.Path.{_≡_}
-use mathlib.Core.Bool.{Bool, true, false, cond}
-use mathlib.Core.List.{List, [], _∷_}
-use lib.Dec.{eqb, ltb}
-use lib.ListN.{length}
+use mathlib.Core.Bool.{Bool, false, cond}
+use mathlib.Core.List.{List}
+use lib.Dec.{ltb}
+use lib.ListN.{length, take}
+use Rattle.byte_slices.specs.Slices.{same}
 use Rattle.aid.specs.Part.{whole}
 use Rattle.aid.specs.declared.Aid.{Aid}
 
 -- whether the first list is a prefix of the second
-unfoldable pub prefix : List ℕ → List ℕ → Bool
-prefix [] l = true
-prefix (x ∷ xs) [] = false
-prefix (x ∷ xs) (y ∷ ys) = cond (eqb x y) (prefix xs ys) false
+abbrev pub prefix : List ℕ → List ℕ → Bool
+prefix s l = same s (take (length s) l)
 
 -- whether a name selects an AID
 unfoldable pub matchesOf : Aid → List ℕ → Bool

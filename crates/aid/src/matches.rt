@@ -16,6 +16,6 @@ impl Aid {
             return false;
         }
         let bytes = self.bytes;
-        check::same(&bytes[..n], aid)
+        byte_slices::same(aid, &bytes[..n])
     }
 }

@@ -2,5 +2,4 @@ pub mod Data
 pub mod Cases
 pub mod Lengths
 pub mod Fitting
-pub mod Same
 pub mod Single

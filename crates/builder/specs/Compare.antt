@@ -3,10 +3,11 @@
 use Prim.Native.Nat.{ℕ}
 use mathlib.Core.Path.{_≡_}
 use mathlib.Core.Bool.{Bool, true, false, cond}
-use mathlib.Core.List.{List, [], _∷_}
+use mathlib.Core.List.{List}
 use lib.Dec.{eqb}
 use lib.ListN.{length}
 use Rattle.basis.specs.Reply.{Reply, is, no}
+use Rattle.byte_slices.specs.Slices.{same}
 use Rattle.command.specs.declared.CommandView.{CommandView}
 use Rattle.builder.specs.Builder.{unlessLong}
 use Rattle.builder.specs.declared.ExpectedLen.{ExpectedLen}
@@ -19,13 +20,6 @@ use Rattle.builder.specs.declared.compare.Comparison.the-variants.{Equal
 abbrev pub compared : ExpectedLen → ℕ
 compared (Ne n) = n
 compared Max = 65535
-
--- whether two lists hold the same bytes
-unfoldable pub same : List ℕ → List ℕ → Bool
-same [] [] = true
-same [] (y ∷ t) = false
-same (x ∷ s) [] = false
-same (x ∷ s) (y ∷ t) = cond (eqb x y) (same s t) false
 
 -- class, instruction, P1 and P2 agree
 unfoldable pub sameHeader : CommandBuilder → CommandView → Bool

@@ -54,7 +54,7 @@ impl CommandBuilder {
         if compared(le) != view.le {
             return Comparison::Different;
         }
-        if check::same(data, other) {
+        if byte_slices::same(data, other) {
             return Comparison::Equal;
         }
         Comparison::Different

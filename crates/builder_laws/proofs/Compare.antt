@@ -15,7 +15,7 @@ use Rattle.builder.specs.declared.ExpectedLen.the-variants.{Ne, Max}
 use Rattle.builder.specs.declared.ExtendedLen.{ExtendedLen}
 use Rattle.builder.specs.declared.ExtendedLen.the-variants.{Unsupported, Supported, Forced}
 use Rattle.builder.specs.declared.CommandBuilder.{CommandBuilder}
-use Rattle.builder.proofs.Same.{same-self}
+use Rattle.byte_slices.proofs.Slices.{same-self}
 use Rattle.builder_laws.specs.Read.{extendedFor, viewFor}
 use Rattle.builder_laws.proofs.Shown.{le-read}
 

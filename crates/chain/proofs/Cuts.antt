@@ -29,7 +29,7 @@ use Rattle.builder_laws.proofs.Shown.{lowered-expected, lowered-shown}
 use Rattle.splitter.specs.Step.{most, firstOf}
 use Rattle.splitter.specs.Pieces.{Part, parts, pieceOf, piecesOf}
 use Rattle.splitter_laws.proofs.Cut.{room-is, cut}
-use Rattle.reassembler.specs.Join.{continues, heldBy, endingOf, heldOf, joinOf}
+use Rattle.reassembler.specs.Join.{continues, heldBy, extendedIn, heldOf, joinOf}
 use Rattle.reassembler.specs.declared.Reassembler.{Reassembler}
 use Rattle.reassembler.specs.declared.Reassembler.the-variants.{Closed, Open}
 use Rattle.reassembler.proofs.Headers.{same-class-is, continues-is}
@@ -51,7 +51,7 @@ Ready r b =
 
 -- the flag of the command given back from k parts: true for several, its own for a single one
 abbrev flag : Reassembler → CommandBuilder → ℕ → ℕ → Bool
-flag r b n k = cond (ltb 1 k) true (endingOf r (viewFor b n) .extended)
+flag r b n k = cond (ltb 1 k) true (extendedIn r (viewFor b n))
 
 -- the run: more to k pieces, then the command
 abbrev pub givenBy : Reassembler → CommandBuilder → List ℕ → List ℕ → Bool → Given
@@ -87,7 +87,7 @@ module _ (b : CommandBuilder) (d : List ℕ) (few : length d ≤ 65535) (s : Sen
   whole-read = built-read Crate b d (λ e. omega (arith, s .clear)) (s .le) few
 
   abbrev whole : Given
-  whole = givenBy r b d room (endingOf r (viewFor b (length d)) .extended)
+  whole = givenBy r b d room (extendedIn r (viewFor b (length d)))
 
   whole-joined : joinOf r room (commandOf b d) ≡ record { reply = is (some (whole .command)); state = Closed; room = put (heldBy r) d room }
   whole-joined =

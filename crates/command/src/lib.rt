@@ -76,10 +76,6 @@ pub fn data<'a>(reading: Reading, apdu: &'a [u8]) -> &'a [u8]
 {
     match CommandView::try_from(reading, apdu) {
         Parsed::Refused(_) => &apdu[..0],
-        Parsed::View(view) => {
-            let at = view.at;
-            let end = at + view.len;
-            &apdu[at..end]
-        }
+        Parsed::View(view) => byte_slices::part(apdu, view.at, view.len),
     }
 }

@@ -63,9 +63,7 @@ impl Command {
                 if room.len() < len {
                     return Owned::Refused(2);
                 }
-                let at = view.at;
-                let end = at + len;
-                bytes::copy(&apdu[at..end], room);
+                bytes::copy(byte_slices::part(apdu, view.at, len), room);
                 Owned::Command(taken(view, len, view.extended))
             }
         }

@@ -12,6 +12,7 @@ use builder::Comparison;
 use builder::ExpectedLen;
 use builder::ExtendedLen;
 use builder::Length;
+use byte_slices::part;
 use class::Reading;
 use command::CommandView;
 use command::Parsed;
@@ -146,7 +147,7 @@ fn compared(built: Built, data: &[u8], apdu: &[u8]) -> Comparison
         Parsed::Refused(j) => Comparison::Refused(smaller(built, j)),
         Parsed::View(view) => match built {
             Built::Refused(k) => Comparison::Refused(k),
-            Built::Builder(builder) => builder.eq(data, view, command::data(Reading::Crate, apdu)),
+            Built::Builder(builder) => builder.eq(data, view, part(apdu, view.at, view.len)),
         },
     }
 }

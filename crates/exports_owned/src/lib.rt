@@ -9,6 +9,7 @@ ghost use Rattle.command.specs.Owned.{ownedOf, saidExtending};
 ghost use Rattle.tell.specs.Answers.{short};
 ghost use Rattle.exports_command.specs.Numbers.{readingNumbered};
 ghost use Rattle.exports_owned.specs.Copies.{command-numbers-is, of-length-is, DataCopied, OwnedCopied, Extends, Extended};
+use byte_slices::part;
 use class::Reading;
 use command::Command;
 use command::CommandView;
@@ -65,7 +66,7 @@ pub extern "C" fn gorvisclen_command_data(
     let by = reading_numbered(reading);
     match CommandView::try_from(by, apdu) {
         Parsed::Refused(k) => refuse(k, out.len(), 1),
-        Parsed::View(_) => tell::copy(command::data(by, apdu), to, out),
+        Parsed::View(view) => tell::copy(part(apdu, view.at, view.len), to, out),
     }
 }
 
@@ -146,7 +147,7 @@ pub extern "C" fn gorvisclen_command_extend(
             if 7 > out.len() {
                 return 16;
             }
-            extend(len, room, view, command::data(Reading::Crate, apdu), out)
+            extend(len, room, view, part(apdu, view.at, view.len), out)
         }
     }
 }

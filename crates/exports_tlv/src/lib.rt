@@ -5,6 +5,7 @@ ghost use Rattle.tlv.specs.Tag as tag;
 ghost use Rattle.tlv.specs.Len as len;
 ghost use Rattle.tlv.specs.Object as object;
 ghost use Rattle.exports_tlv.specs.Numbers.{reading-is, toldTag, toldLen, toldObject, ofTag, ofLen, ofObject, ValueCopied};
+use byte_slices::part;
 use tell::Numbers;
 use tell::answer;
 use tell::refuse;
@@ -96,6 +97,6 @@ pub extern "C" fn gorvisclen_value(
     match tlv::get_data_object(by, record, path) {
         GetDataObject::End => refuse(11, out.len(), 1),
         GetDataObject::Unreadable => refuse(12, out.len(), 1),
-        GetDataObject::Value(_, _) => tell::copy(tlv::value(by, record, path), to, out),
+        GetDataObject::Value(at, len) => tell::copy(part(record, at, len), to, out),
     }
 }

@@ -17,16 +17,11 @@ use Rattle.command.specs.Command.{parse, dataIn}
 use Rattle.command.specs.Owned.{extendOf}
 use Rattle.command.specs.declared.CommandView.{CommandView}
 use Rattle.command.proofs.Rooms.{extend-is, extend-no}
-use Rattle.reassembler.specs.Join.{continuesOpen, SameHeader, continues, heldBy, endingOf, lengthOf, heldOf, answerOf, stateOf, Outcome, refusedOf, takenIn, parsedIn, joinOf}
+use Rattle.reassembler.specs.Join.{continuesOpen, SameHeader, continues, heldBy, extendedIn, commandIn, lengthOf, heldOf, answerOf, stateOf, Outcome, refusedOf, takenIn, parsedIn, joinOf}
 use Rattle.reassembler.specs.declared.Held.{Held}
 use Rattle.reassembler.specs.declared.Reassembler.{Reassembler}
 use Rattle.reassembler.specs.declared.Reassembler.the-variants.{Closed, Open}
 use Rattle.reassembler.proofs.Headers.{continues-same, same-continues}
-
--- the last piece's expected length is its own
-ending-le : (r : Reassembler) (v : CommandView) → endingOf r v .le ≡ v .le
-ending-le Closed v = refl
-ending-le (Open h) v = refl
 
 -- a piece that is read and continues the chain
 module _ (r : Reassembler) (room s : List ℕ) (v : CommandView) (d : List ℕ) (read : parse Crate s ≡ is v)
@@ -68,13 +63,13 @@ module _ (r : Reassembler) (room s : List ℕ) (v : CommandView) (d : List ℕ) 
                 p2 = v .p2;
                 len = heldBy r + length d;
                 le = v .le;
-                extended = endingOf r v .extended;
+                extended = extendedIn r v;
               }));
           state = Closed;
           room = put (heldBy r) d room;
         }
     unfolding answerOf stateOf
-    step-last h = accepted ∙ rw (ne-eqb (bit (v .class .cla)) 1 (omega arith), ending-le r v)
+    step-last h = accepted ∙ rw (ne-eqb (bit (v .class .cla)) 1 (omega arith))
 
 -- what a header has to be: the same class apart from bit 0x10, instruction, P1 and P2
 pub header-from : (h : Held) (v : CommandView)
@@ -96,7 +91,7 @@ module _ (h : Held) (room s : List ℕ) (v : CommandView) (read : parse Crate s 
   by-room t true q e =
       let d = dataIn s (is v) in
       let g = accepted (Open h) room s v d read (ap (dataIn s) read) (same-continues h v t) (leb-true (h .len + length d) (length room) q) in
-      no-is 17 (answerOf (Open h) v (h .len + length d)) (sym e ∙ ap (λ (o : Outcome). o .reply) g)
+      no-is 17 (answerOf v (commandIn (Open h) v (h .len + length d))) (sym e ∙ ap (λ (o : Outcome). o .reply) g)
   by-room t false q e =
       let d = dataIn s (is v) in
       let g = step-no-room (Open h) room s v d read (ap (dataIn s) read) (same-continues h v t) (leb-false (h .len + length d) (length room) q) in
@@ -119,7 +114,7 @@ module _ (r : Reassembler) (room : List ℕ) where
   Kept o k = o .reply ≡ no k → (o .state ≡ r) × (o .room ≡ room)
 
   taken-kept : (v : CommandView) (d : List ℕ) (n : Reply ℕ) (k : ℕ) → Kept (takenIn r room v d n) k
-  taken-kept v d (is n) k e = absurd (no-is k (answerOf r v n) (sym e))
+  taken-kept v d (is n) k e = absurd (no-is k (answerOf v (commandIn r v n)) (sym e))
   taken-kept v d (no j) k e = (refl, refl)
 
   parsed-kept : (s : List ℕ) (x : Reply CommandView) (k : ℕ) → Kept (parsedIn r room s x) k

@@ -12,10 +12,9 @@ use Rattle.class.specs.Chain.{bit, chained}
 use Rattle.class.specs.declared.Class.{Class}
 use Rattle.class.specs.declared.Reading.the-variants.{Crate}
 use Rattle.command.specs.Command.{parse, dataIn}
-use Rattle.command.specs.Owned.{extendOf}
+use Rattle.command.specs.Owned.{takenOf, extendOf}
 use Rattle.command.specs.declared.CommandView.{CommandView}
 use Rattle.command.specs.declared.owned.Command.{Command}
-use Rattle.reassembler.specs.declared.Ending.{Ending}
 use Rattle.reassembler.specs.declared.Held.{Held}
 use Rattle.reassembler.specs.declared.Reassembler.{Reassembler}
 use Rattle.reassembler.specs.declared.Reassembler.the-variants.{Closed, Open}
@@ -49,23 +48,14 @@ abbrev pub heldBy : Reassembler → ℕ
 heldBy Closed = 0
 heldBy (Open h) = h .len
 
--- Le is this piece's; extended is the piece's own flag for a single piece, true for several
-abbrev pub endingOf : Reassembler → CommandView → Ending
-endingOf Closed v = record { le = v .le; extended = v .extended }
-endingOf (Open h) v = record { le = v .le; extended = true }
+-- extended is the piece's own flag for a single piece, true for several
+abbrev pub extendedIn : Reassembler → CommandView → Bool
+extendedIn Closed v = v .extended
+extendedIn (Open h) v = true
 
--- the command with n joined bytes: header and ending
+-- the command with n joined bytes: header and Le are this piece's
 abbrev pub commandIn : Reassembler → CommandView → ℕ → Command
-commandIn r v n =
-    record {
-      class = v .class;
-      instruction = v .instruction;
-      p1 = v .p1;
-      p2 = v .p2;
-      len = n;
-      le = endingOf r v .le;
-      extended = endingOf r v .extended;
-    }
+commandIn r v n = takenOf v n (extendedIn r v)
 
 -- the joined length with n bytes of this piece in a room of m bytes: 17, then 18
 unfoldable pub lengthOf : Reassembler → CommandView → ℕ → ℕ → Reply ℕ
@@ -75,9 +65,9 @@ lengthOf r v n m = cond (continues r v) (extendOf (heldBy r) n m) (no 17)
 abbrev pub heldOf : CommandView → ℕ → Held
 heldOf v n = record { class = v .class; instruction = v .instruction; p1 = v .p1; p2 = v .p2; len = n }
 
--- n bytes are joined. Bit 0x10 set: more (none). Clear: the command, with class and Le of this piece
-unfoldable pub answerOf : Reassembler → CommandView → ℕ → Option Command
-answerOf r v n = cond (eqb (bit (v .class .cla)) 1) none (some (commandIn r v n))
+-- the data are joined. Bit 0x10 set: more (none), and the chain is open. Clear: the command, and it is closed
+unfoldable pub answerOf : CommandView → Command → Option Command
+answerOf v c = cond (eqb (bit (v .class .cla)) 1) none (some c)
 
 unfoldable pub stateOf : CommandView → ℕ → Reassembler
 stateOf v n = cond (eqb (bit (v .class .cla)) 1) (Open (heldOf v n)) Closed
@@ -94,7 +84,7 @@ refusedOf r room k = record { reply = no k; state = r; room = room }
 
 -- data d of a piece in the room, behind those held; room bytes past them stay
 abbrev pub takenIn : Reassembler → List ℕ → CommandView → List ℕ → Reply ℕ → Outcome
-takenIn r room v d (is n) = record { reply = is (answerOf r v n); state = stateOf v n; room = put (heldBy r) d room }
+takenIn r room v d (is n) = record { reply = is (answerOf v (commandIn r v n)); state = stateOf v n; room = put (heldBy r) d room }
 takenIn r room v d (no k) = refusedOf r room k
 
 abbrev pub viewIn : Reassembler → List ℕ → CommandView → List ℕ → Outcome

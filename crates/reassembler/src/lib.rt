@@ -1,7 +1,8 @@
 // Pieces of chained commands joined again, in a room that the caller lends.
 ghost use mathlib.Core.Path.{_≡_};
 ghost use Rattle.basis.specs.Reply.{is, no};
-ghost use Rattle.reassembler.specs.Join.{sameClass, continuesOpen, continues, heldBy, endingOf, commandIn, answerOf, stateOf, viewIn, Says, Joins, join-is, closed-is, data-is};
+ghost use Rattle.reassembler.specs.Join.{sameClass, continuesOpen, continues, heldBy, extendedIn, commandIn, answerOf, stateOf, viewIn, Says, Joins, join-is, closed-is, data-is};
+use byte_slices::part;
 use class::Class;
 use class::Reading;
 use command::Command;
@@ -38,12 +39,6 @@ pub struct Joined {
     pub rest: Reassembler,
 }
 
-// The expected length and the flag of a command.
-struct Ending {
-    le: usize,
-    extended: bool,
-}
-
 // Whether two classes are the same, apart from the chaining bit.
 fn same_class(before: Class, class: Class) -> bool
     ensures { λ r. ⌜ r ≡ sameClass before class ⌝ }
@@ -69,6 +64,30 @@ fn continues_open(held: Held, view: CommandView) -> bool
         return false;
     }
     held.p2 == view.p2
+}
+
+// The answer to a piece whose data are in the room, and the command with them.
+fn accepted(view: CommandView, command: Command) -> Joined
+    ensures { λ r. ⌜ Says (is (answerOf view command)) (stateOf view (command .len)) r ⌝ }
+{
+    let class = view.class;
+    if class.chain().not_the_last() {
+        let held = Held {
+            class,
+            instruction: view.instruction,
+            p1: view.p1,
+            p2: view.p2,
+            len: command.len,
+        };
+        return Joined {
+            answer: Joining::More,
+            rest: Reassembler::Open(held),
+        };
+    }
+    Joined {
+        answer: Joining::Command(command),
+        rest: Reassembler::Closed,
+    }
 }
 
 impl Reassembler {
@@ -106,36 +125,29 @@ impl Reassembler {
         }
     }
 
-    // What a last piece says of its command: the expected length; the flag, which is its own for a single piece.
-    fn ending(self, view: CommandView) -> Ending
-        ensures { λ r. ⌜ r ≡ endingOf self view ⌝ }
+    // The flag of a command that a piece ends: its own for a single piece, true for several.
+    fn extended(self, view: CommandView) -> bool
+        ensures { λ r. ⌜ r ≡ extendedIn self view ⌝ }
     {
         match self {
-            Reassembler::Closed => Ending {
-                le: view.le,
-                extended: view.extended,
-            },
-            Reassembler::Open(_held) => {
-                let le = view.le;
-                Ending { le, extended: true }
-            }
+            Reassembler::Closed => view.extended,
+            Reassembler::Open(_) => true,
         }
     }
 
-    // The command of a piece, with so many bytes of data.
-    fn command(self, view: CommandView, len: usize) -> Command
-        ensures { λ r. ⌜ r ≡ commandIn self view len ⌝ }
+    // The command of a piece, with the data that are held before it.
+    fn command(self, view: CommandView) -> Command
+        ensures { λ r. ⌜ r ≡ commandIn self view (heldBy self) ⌝ }
     {
         let class = view.class;
-        let ending = self.ending(view);
         Command {
             class,
             instruction: view.instruction,
             p1: view.p1,
             p2: view.p2,
-            len,
-            le: ending.le,
-            extended: ending.extended,
+            len: self.held(),
+            le: view.le,
+            extended: self.extended(view),
         }
     }
 
@@ -148,31 +160,6 @@ impl Reassembler {
         }
     }
 
-    // The answer to a piece whose data are in the room: so many bytes are joined.
-    fn accepted(self, view: CommandView, len: usize) -> Joined
-        ensures { λ r. ⌜ Says (is (answerOf self view len)) (stateOf view len) r ⌝ }
-    {
-        let class = view.class;
-        if class.chain().not_the_last() {
-            let held = Held {
-                class,
-                instruction: view.instruction,
-                p1: view.p1,
-                p2: view.p2,
-                len,
-            };
-            return Joined {
-                answer: Joining::More,
-                rest: Reassembler::Open(held),
-            };
-        }
-        let command = self.command(view, len);
-        Joined {
-            answer: Joining::Command(command),
-            rest: Reassembler::Closed,
-        }
-    }
-
     // A piece that was read, and its data.
     fn join_view(self, view: CommandView, data: &[u8], room: &mut [u8]) -> Joined
         ensures { λ r. ⌜ Joins (viewIn self (now (room .entry)) view (now («data» .entry))) r (now (room .exit)) ⌝ }
@@ -180,14 +167,15 @@ impl Reassembler {
         if !self.continues(view) {
             return self.refused(17);
         }
-        let before = self.command(view, self.held());
+        let before = self.command(view);
         let joined = before.extend_from_command_view(view, data, room);
         let answer = joined.answer;
         match answer {
             Extending::Refused(k) => self.refused(k),
             Extending::Done => {
-                let command = joined.command;
-                self.accepted(view, command.len)
+                let mut command = joined.command;
+                command.extended = before.extended;
+                accepted(view, command)
             }
         }
     }
@@ -198,11 +186,7 @@ impl Reassembler {
     {
         match CommandView::try_from(Reading::Crate, piece) {
             Parsed::Refused(k) => self.refused(k),
-            Parsed::View(view) => {
-                let at = view.at;
-                let end = at + view.len;
-                self.join_view(view, &piece[at..end], room)
-            }
+            Parsed::View(view) => self.join_view(view, part(piece, view.at, view.len), room),
         }
     }
 }
@@ -211,9 +195,5 @@ impl Reassembler {
 pub fn data<'a>(command: Command, room: &'a [u8]) -> &'a [u8]
     ensures { λ r. ⌜ data-is command (now (room .entry)) (now r) ⌝ }
 {
-    let len = command.len;
-    if room.len() < len {
-        return &room[..];
-    }
-    &room[..len]
+    part(room, 0, command.len)
 }

@@ -25,7 +25,7 @@ returns-3 c =
     let v = b .before .before .before in
     let t = v .before .before in
     let e = read (t .before .before .before .args .apdu .now) (t .try-from .ensures) (ap said (v .view .given .1)) in
-    rw (e, b .built2 .given .1) (rw (d .«data» .ensures, e) at (c .eq .ensures))
+    rw (e, b .built2 .given .1) (rw (d .part .ensures) at (c .eq .ensures))
 
 pub compared-spec : {M : Type 1} → statement M
 compared-spec =

@@ -1,6 +1,6 @@
 use borrow.Author.Needs.{needs}
 use mathlib.Core.Path.{refl, sym, ap, _∙_}
-use Rattle.command.specs.Command.{dataIn, said}
+use Rattle.command.specs.Command.{said}
 use Rattle.exports_owned.proofs.gorvisclen_command_data.Statement.{statement}
 use Rattle.exports_owned.proofs.gorvisclen_command_data.Tie as tie
 
@@ -13,11 +13,10 @@ returns c =
 returns-2 : tie.Need-returns-2
 returns-2 c =
     let y = c .before .before .before .before in
-    let d = y .before .before .before in
-    let t = d .before .before .before in
-    let a = t .before .before .before .before .before .args in
-    let e = sym (t .try-from .ensures) ∙ ap said (d .before .enum-told .given .1) in
-    rw (← t .before .reading-numbered .ensures, e, ← d .«data» .ensures ∙ ap (dataIn (a .apdu .now)) e) (y .copy .ensures)
+    let p = y .before .before .before in
+    let v = p .before .before in
+    let t = v .before .before in
+    rw (← t .before .reading-numbered .ensures, sym (t .try-from .ensures) ∙ ap said (v .view .given .1)) (rw (p .part .ensures) at (y .copy .ensures))
 
 pub gorvisclen-command-data-spec : {M : Type 1} → statement M
 gorvisclen-command-data-spec =

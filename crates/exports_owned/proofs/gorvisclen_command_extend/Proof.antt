@@ -23,7 +23,7 @@ returns-3 c =
     let i = d .before .before in
     let v = i .before .before in
     let e = sym (v .before .before .try-from .ensures) ∙ ap said (v .view .given .1) in
-    rw (e, le-ltb _ _ (i .if1 .left)) (rw (d .«data» .ensures, e) at (x .extend .ensures))
+    rw (e, le-ltb _ _ (i .if1 .left)) (rw (d .part .ensures) at (x .extend .ensures))
 
 pub gorvisclen-command-extend-spec : {M : Type 1} → statement M
 gorvisclen-command-extend-spec =

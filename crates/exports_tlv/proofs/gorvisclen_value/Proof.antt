@@ -1,6 +1,6 @@
 use borrow.Author.Needs.{needs}
 use mathlib.Core.Path.{refl, sym, ap, _∙_}
-use Rattle.tlv.specs.Lookup.{valueIn, said}
+use Rattle.tlv.specs.Lookup.{said}
 use Rattle.exports_tlv.proofs.gorvisclen_value.Statement.{statement}
 use Rattle.exports_tlv.proofs.gorvisclen_value.Tie as tie
 
@@ -17,11 +17,11 @@ returns-2 c =
 returns-3 : tie.Need-returns-3
 returns-3 c =
     let y = c .before .before .before .before in
-    let v = y .before .before .before in
-    let g = v .before .before .before in
-    let a = g .before .before .before .before .before .before .args in
-    let e = sym (g .get-data-object .ensures) ∙ ap said (v .before .enum-told3 .given .1) in
-    rw (← g .before .reading-numbered .ensures, e, ← v .value .ensures ∙ ap (valueIn (a .«record» .now)) e) (y .copy .ensures)
+    let p = y .before .before .before in
+    let v = p .before .before in
+    let g = v .before .before in
+    rw (← g .before .reading-numbered .ensures, sym (g .get-data-object .ensures) ∙ ap said (v .at .given .1))
+    (rw (p .part .ensures) at (y .copy .ensures))
 
 pub gorvisclen-value-spec : {M : Type 1} → statement M
 gorvisclen-value-spec =

@@ -1,6 +1,6 @@
 use borrow.Author.Needs.{needs}
 use native.Mathlib.Omega.{arith}
-use mathlib.Core.Path.{_≡_, sym}
+use mathlib.Core.Path.{_≡_, sym, _∙_}
 use lib.ListN.{length}
 use lib.Seq.{length-take-le}
 use Rattle.aid.proofs.Spans.{up-to}
@@ -29,8 +29,7 @@ slice-aggregate-same c =
 returns-3 : tie.Need-returns-3
 returns-3 c =
     let d = c .before .before .before in
-    by-front _ _ (omega (arith, d .before .before .if1 .left)) (omega (arith, d .if2 .left, d .before .up-to-16 .ensures)) _
-    (c .same .ensures .0) (c .same .ensures .1)
+    c .same .ensures ∙ by-front _ _ (omega (arith, d .before .before .if1 .left)) (omega (arith, d .if2 .left, d .before .up-to-16 .ensures))
 
 pub matches-spec : {M : Type 1} → statement M
 matches-spec =

@@ -3,11 +3,11 @@ use mathlib.Core.Path.{_≡_, sym, ap, _∙_}
 use borrow.Author.Tests.{lt-ltb, le-ltb, eq-eqb, ne-eqb, not-true, not-false}
 use lib.ListN.{length}
 use Rattle.basis.specs.Reply.{is}
+use Rattle.byte_slices.specs.Slices.{same}
 use Rattle.builder.specs.Builder.{unlessLong}
-use Rattle.builder.specs.Compare.{said, same, equalTo, eq-is}
+use Rattle.builder.specs.Compare.{said, equalTo, eq-is}
 use Rattle.builder.specs.declared.compare.Comparison.{Comparison}
 use Rattle.builder.specs.declared.compare.Comparison.the-variants.{Equal, Different}
-use Rattle.builder.proofs.Same.{same-by}
 use Rattle.builder.proofs.CommandBuilder.eq.Statement.{statement}
 use Rattle.builder.proofs.CommandBuilder.eq.Tie as tie
 
@@ -49,9 +49,7 @@ decided c =
 
 by-data : (c : tie.After-same) (r : Comparison) → said r ≡ is (c .same .result)
     → eq-is (start c .args .self) (start c .args .«data» .now) (start c .args .view) (start c .args .other .now) r
-by-data c r e =
-    let a = start c .args in
-    e ∙ ap is (same-by (a .«data» .now) (a .other .now) (c .same .result) (c .same .ensures)) ∙ sym (decided c)
+by-data c r e = e ∙ ap is (c .same .ensures) ∙ sym (decided c)
 
 returns-4 : tie.Need-returns-4
 returns-4 c = by-data (c .before) Equal (ap is (sym (c .if4 .taken)))

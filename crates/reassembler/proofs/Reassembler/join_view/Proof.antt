@@ -18,21 +18,19 @@ returns-2 : tie.Need-returns-2
 returns-2 c =
     let k = c .before .before in
     let x = k .before .before .before .before in
-    let h = x .before .before .before in
-    let i = h .before in
+    let i = x .before .before .before in
     let a = i .before .before .before .before .args in
-    refused (a .self) (a .view) (a .«data» .now) (a .room .now) (sym (i .before .continues .ensures) ∙ not-false _ (i .if1 .left)) _ _ _ _
-    (h .held .ensures) (x .before .before .command .ensures) (x .extend-from-command-view .ensures) _ _ (k .answer .given .1) (c .refused2 .ensures)
+    refused (a .self) (a .view) (a .«data» .now) (a .room .now) _ _ (sym (i .before .continues .ensures) ∙ not-false _ (i .if1 .left)) _ _
+    (x .before .before .command .ensures) (x .extend-from-command-view .ensures) _ (k .answer .given .1) (c .refused2 .ensures)
 
 returns-3 : tie.Need-returns-3
 returns-3 c =
     let k = c .before .before in
     let x = k .before .before .before .before in
-    let h = x .before .before .before in
-    let i = h .before in
+    let i = x .before .before .before in
     let a = i .before .before .before .before .args in
-    taken (a .self) (a .view) (a .«data» .now) (a .room .now) (sym (i .before .continues .ensures) ∙ not-false _ (i .if1 .left)) _ _ _ _
-    (h .held .ensures) (x .before .before .command .ensures) (x .extend-from-command-view .ensures) _ (k .enum-told .given .1) (c .accepted .ensures)
+    taken (a .self) (a .view) (a .«data» .now) (a .room .now) _ _ (sym (i .before .continues .ensures) ∙ not-false _ (i .if1 .left)) _ _
+    (x .before .before .command .ensures) (x .extend-from-command-view .ensures) (k .enum-told .given .1) (c .accepted .ensures)
 
 pub join-view-spec : {M : Type 1} → statement M
 join-view-spec =
@@ -41,7 +39,6 @@ join-view-spec =
     (λ c κs. search needs)
     (λ c κs. search needs)
     returns
-    (λ c κs. search needs)
     (λ c κs. search needs)
     (λ c κs. search needs)
     (λ c. search needs)
