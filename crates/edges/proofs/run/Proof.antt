@@ -1,23 +1,25 @@
--- It ends: each turn shows a byte. Assumes nothing.
+-- It ends: each turn passes a line end. Assumes nothing.
 use borrow.Author.Needs.{needs}
 use Prim.Native.Nat.{_-_}
 use lib.ListN.{length}
-use Rattle.edges.proofs.report.bytes.Statement.{statement}
-use Rattle.edges.proofs.report.bytes.Tie as tie
+use Rattle.edges.proofs.run.Statement.{statement}
+use Rattle.edges.proofs.run.Tie as tie
 
 abbrev Inv-loop : tie.InvT-loop
-Inv-loop label shown i₀ i = Unit {0}
+Inv-loop file at₀ at = Unit {0}
 
 abbrev μ-loop : tie.MeasureT-loop
-μ-loop label shown i₀ i = length shown - i
+μ-loop file at₀ at = length file - at
 
-pub bytes-spec : {M : Type 1} → statement M
-bytes-spec =
+pub run-spec : {M : Type 1} → statement M
+run-spec =
     tie.close
     (tie.spec
     Inv-loop
     μ-loop
+    (λ c. search needs)
     (λ c κs. search needs)
+    (λ c. search needs)
     (λ c. search needs)
     (λ c. search needs)
     (λ c κs. search needs)
