@@ -32,19 +32,25 @@ fn part(aid: Aid, part: Part, out: &mut [u8; 200], at: usize) -> usize {
     let at = answer::number(out, at, part_len(aid, part));
     let mut to = [0u8; 16];
     match aid.copy_part(part, &mut to) {
-        Copied::Refused(k) => answer::byte(out, at, k),
+        Copied::Refused(k) => answer::put(out, at, &[k]),
         Copied::None => at,
         Copied::Bytes(n) => answer::string(out, at, input::part(&to, 0, n)),
     }
 }
 
+fn categories(aid: Aid) -> [u8; 5] {
+    [
+        category_number(aid.category()),
+        aid.is_international() as u8,
+        aid.is_national() as u8,
+        aid.is_standard() as u8,
+        aid.is_proprietary() as u8,
+    ]
+}
+
 fn told(aid: Aid, out: &mut [u8; 200]) -> usize {
-    let at = answer::byte(out, 0, 0);
-    let at = answer::byte(out, at, category_number(aid.category()));
-    let at = answer::flag(out, at, aid.is_international());
-    let at = answer::flag(out, at, aid.is_national());
-    let at = answer::flag(out, at, aid.is_standard());
-    let at = answer::flag(out, at, aid.is_proprietary());
+    let at = answer::start(out, 0);
+    let at = answer::put(out, at, &categories(aid));
     let at = part(aid, Part::Bytes, out, at);
     let at = part(aid, Part::Truncated, out, at);
     let at = part(aid, Part::Rid, out, at);
@@ -55,7 +61,7 @@ fn made(new: TryNew, out: &mut [u8; 200]) -> usize {
     let answer = new.answer;
     let aid = new.aid;
     match answer {
-        Answer::Refused(k) => answer::byte(out, 0, k),
+        Answer::Refused(k) => answer::start(out, k),
         Answer::Made => told(aid, out),
     }
 }
@@ -78,10 +84,7 @@ pub(crate) fn matches(name: &[u8], other: &[u8], numbers: &[u8], out: &mut [u8; 
     let answer = new.answer;
     let aid = new.aid;
     match answer {
-        Answer::Refused(k) => answer::byte(out, 0, k),
-        Answer::Made => {
-            let at = answer::byte(out, 0, 0);
-            answer::flag(out, at, aid.matches(other))
-        }
+        Answer::Refused(k) => answer::start(out, k),
+        Answer::Made => answer::put(out, 0, &[0, aid.matches(other) as u8]),
     }
 }

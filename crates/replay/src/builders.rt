@@ -64,17 +64,20 @@ pub(crate) fn fields(builder: CommandBuilder, out: &mut [u8; 200], at: usize) ->
     let class = builder.class;
     let le = builder.le;
     let mode = builder.mode;
-    let at = answer::byte(out, at, class.into_inner());
-    let at = answer::byte(out, at, builder.instruction);
-    let at = answer::byte(out, at, builder.p1);
-    let at = answer::byte(out, at, builder.p2);
+    let header = [
+        class.into_inner(),
+        builder.instruction,
+        builder.p1,
+        builder.p2,
+    ];
+    let at = answer::put(out, at, &header);
     let at = answer::number(out, at, expected_number(le));
-    answer::byte(out, at, mode_number(mode))
+    answer::put(out, at, &[mode_number(mode)])
 }
 
 fn required(builder: CommandBuilder, data: &[u8], out: &mut [u8; 200], at: usize) -> usize {
     match builder.required_len(data) {
-        Length::Refused(k) => answer::byte(out, at, k),
+        Length::Refused(k) => answer::put(out, at, &[k]),
         Length::Bytes(n) => answer::number(out, at, n),
     }
 }
@@ -85,11 +88,11 @@ fn written(
     room: &mut [u8; 65700],
     out: &mut [u8; 200],
 ) -> usize {
-    let at = answer::byte(out, 0, 0);
+    let at = answer::start(out, 0);
     let at = fields(builder, out, at);
     let at = required(builder, data, out, at);
     match builder.serialize_into(data, room, 0) {
-        Length::Refused(k) => answer::byte(out, at, k),
+        Length::Refused(k) => answer::put(out, at, &[k]),
         Length::Bytes(n) => answer::string(out, at, input::part(room, 0, n)),
     }
 }
@@ -102,7 +105,7 @@ pub(crate) fn build(
     out: &mut [u8; 200],
 ) -> usize {
     match asked(data, numbers) {
-        Built::Refused(k) => answer::byte(out, 0, k),
+        Built::Refused(k) => answer::start(out, k),
         Built::Builder(builder) => written(builder, data, room, out),
     }
 }
@@ -114,7 +117,7 @@ fn forced(
     out: &mut [u8; 200],
 ) -> usize {
     match builder.force_extended() {
-        Built::Refused(k) => answer::byte(out, 0, k),
+        Built::Refused(k) => answer::start(out, k),
         Built::Builder(builder) => written(builder, data, room, out),
     }
 }
@@ -127,23 +130,26 @@ pub(crate) fn force(
     out: &mut [u8; 200],
 ) -> usize {
     match asked(data, numbers) {
-        Built::Refused(k) => answer::byte(out, 0, k),
+        Built::Refused(k) => answer::start(out, k),
         Built::Builder(builder) => forced(builder, data, room, out),
+    }
+}
+
+fn comparison_number(comparison: Comparison) -> u8 {
+    match comparison {
+        Comparison::Equal => 1,
+        Comparison::Different => 0,
+        Comparison::Refused(k) => k,
     }
 }
 
 // A builder held against a command that is read.
 fn compared(builder: CommandBuilder, own: &[u8], apdu: &[u8], out: &mut [u8; 200]) -> usize {
-    let at = answer::byte(out, 0, 0);
     match CommandView::try_from(Reading::Crate, apdu) {
-        Parsed::Refused(k) => answer::byte(out, at, k),
+        Parsed::Refused(k) => answer::put(out, 0, &[0, k]),
         Parsed::View(view) => {
-            let at = answer::byte(out, at, 0);
-            match builder.eq(own, view, data(Reading::Crate, apdu)) {
-                Comparison::Equal => answer::byte(out, at, 1),
-                Comparison::Different => answer::byte(out, at, 0),
-                Comparison::Refused(k) => answer::byte(out, at, k),
-            }
+            let comparison = builder.eq(own, view, data(Reading::Crate, apdu));
+            answer::put(out, 0, &[0, 0, comparison_number(comparison)])
         }
     }
 }
@@ -151,7 +157,7 @@ fn compared(builder: CommandBuilder, own: &[u8], apdu: &[u8], out: &mut [u8; 200
 // First string: the data. Second: the command.
 pub(crate) fn equal(data: &[u8], apdu: &[u8], numbers: &[u8], out: &mut [u8; 200]) -> usize {
     match asked(data, numbers) {
-        Built::Refused(k) => answer::byte(out, 0, k),
+        Built::Refused(k) => answer::start(out, k),
         Built::Builder(builder) => compared(builder, data, apdu, out),
     }
 }

@@ -50,50 +50,58 @@ fn channel_number(channel: Channel) -> u8 {
     }
 }
 
-// Which of the three constants a class is.
-fn constants(cla: u8, out: &mut [u8; 200], at: usize) -> usize {
+// What a class says of secure messaging.
+fn messaging(class: Class) -> [u8; 2] {
+    let messaging = class.secure_messaging(Reading::Crate);
+    [messaging_number(messaging), messaging.none() as u8]
+}
+
+// What it says of the chain, and its channel.
+fn chain(class: Class) -> [u8; 4] {
+    let chain = class.chain();
+    [
+        chain_number(chain),
+        chain.last_or_only() as u8,
+        chain.not_the_last() as u8,
+        channel_number(class.channel(Reading::Crate)),
+    ]
+}
+
+// The class of a command that is not the last of a chain, and which of the three constants this class is.
+fn constants(class: Class) -> [u8; 4] {
+    let chained = class.as_chained();
     let zero = ZERO_CLA;
     let without = NO_SM_CLA;
     let with = SM_CLA;
-    let at = answer::flag(out, at, zero.into_inner() == cla);
-    let at = answer::flag(out, at, without.into_inner() == cla);
-    answer::flag(out, at, with.into_inner() == cla)
+    let cla = class.into_inner();
+    [
+        chained.into_inner(),
+        (zero.into_inner() == cla) as u8,
+        (without.into_inner() == cla) as u8,
+        (with.into_inner() == cla) as u8,
+    ]
 }
 
-fn told(class: Class, out: &mut [u8; 200], at: usize) -> usize {
-    let messaging = class.secure_messaging(Reading::Crate);
-    let chain = class.chain();
-    let chained = class.as_chained();
-    let at = answer::byte(out, at, class.into_inner());
-    let at = answer::byte(out, at, range_number(class.range()));
-    let at = answer::byte(out, at, messaging_number(messaging));
-    let at = answer::flag(out, at, messaging.none());
-    let at = answer::byte(out, at, chain_number(chain));
-    let at = answer::flag(out, at, chain.last_or_only());
-    let at = answer::flag(out, at, chain.not_the_last());
-    let at = answer::byte(out, at, channel_number(class.channel(Reading::Crate)));
-    let at = answer::byte(out, at, chained.into_inner());
-    constants(class.into_inner(), out, at)
+fn told(class: Class, out: &mut [u8; 200]) -> usize {
+    let start = [0, class.into_inner(), range_number(class.range())];
+    let at = answer::put(out, 0, &start);
+    let at = answer::put(out, at, &messaging(class));
+    let at = answer::put(out, at, &chain(class));
+    answer::put(out, at, &constants(class))
 }
 
 // Numbers: the byte.
 pub(crate) fn from_byte(numbers: &[u8], out: &mut [u8; 200]) -> usize {
     match Class::from_byte(input::byte(numbers, 0)) {
-        FromByte::Refused(k) => answer::byte(out, 0, k),
-        FromByte::Class(class) => {
-            let at = answer::byte(out, 0, 0);
-            told(class, out, at)
-        }
+        FromByte::Refused(k) => answer::start(out, k),
+        FromByte::Class(class) => told(class, out),
     }
 }
 
 // Numbers: the byte.
 pub(crate) fn from_cla(numbers: &[u8], out: &mut [u8; 200]) -> usize {
     match Range::from_cla(input::byte(numbers, 0)) {
-        FromCla::Refused(k) => answer::byte(out, 0, k),
-        FromCla::Range(range) => {
-            let at = answer::byte(out, 0, 0);
-            answer::byte(out, at, range_number(range))
-        }
+        FromCla::Refused(k) => answer::start(out, k),
+        FromCla::Range(range) => answer::put(out, 0, &[0, range_number(range)]),
     }
 }

@@ -7,32 +7,31 @@ use builder::CommandBuilder;
 use splitter::NewPieces;
 use splitter::Pieces;
 use splitter::ShouldSplit;
+use splitter::Split;
 use splitter::WriteNext;
 use splitter::should_split;
 
+fn halves(split: Split, out: &mut [u8; 200]) -> usize {
+    let now = split.now;
+    let later = split.later;
+    let at = answer::put(out, 0, &[0, 1]);
+    let at = answer::number(out, at, split.len);
+    let at = builders::fields(now, out, at);
+    builders::fields(later, out, at)
+}
+
 fn cut(builder: CommandBuilder, data: &[u8], available: usize, out: &mut [u8; 200]) -> usize {
     match should_split(builder, data, available) {
-        ShouldSplit::Refused(k) => answer::byte(out, 0, k),
-        ShouldSplit::Whole => {
-            let at = answer::byte(out, 0, 0);
-            answer::byte(out, at, 0)
-        }
-        ShouldSplit::Split(split) => {
-            let now = split.now;
-            let later = split.later;
-            let at = answer::byte(out, 0, 0);
-            let at = answer::byte(out, at, 1);
-            let at = answer::number(out, at, split.len);
-            let at = builders::fields(now, out, at);
-            builders::fields(later, out, at)
-        }
+        ShouldSplit::Refused(k) => answer::start(out, k),
+        ShouldSplit::Whole => answer::put(out, 0, &[0, 0]),
+        ShouldSplit::Split(split) => halves(split, out),
     }
 }
 
 // First string: the data.
 pub(crate) fn step(data: &[u8], numbers: &[u8], out: &mut [u8; 200]) -> usize {
     match builders::asked(data, numbers) {
-        Built::Refused(k) => answer::byte(out, 0, k),
+        Built::Refused(k) => answer::start(out, k),
         Built::Builder(builder) => cut(builder, data, input::three(numbers, 8), out),
     }
 }
@@ -46,7 +45,7 @@ struct Sums {
 
 // The sums with a piece that takes so many bytes of the buffer.
 fn next(sums: Sums, buffer: &[u8; 261], len: usize) -> Sums {
-    let sum = answer::checksum_number(sums.sum, len);
+    let sum = answer::checksum(sums.sum, &answer::three(len));
     Sums {
         pieces: input::behind(sums.pieces, 1),
         bytes: input::behind(sums.bytes, len),
@@ -85,7 +84,7 @@ fn all(start: Pieces, data: &[u8], buffer: &mut [u8; 261]) -> Sums {
 fn told(chain: Pieces, data: &[u8], out: &mut [u8; 200]) -> usize {
     let mut buffer = [0u8; 261];
     let sums = all(chain, data, &mut buffer);
-    let at = answer::byte(out, 0, 0);
+    let at = answer::start(out, 0);
     let at = answer::number(out, at, sums.pieces);
     let at = answer::number(out, at, sums.bytes);
     answer::sum(out, at, sums.sum)
@@ -100,7 +99,7 @@ pub(crate) fn chain(data: &[u8], numbers: &[u8], out: &mut [u8; 200]) -> usize {
     let le = builders::short_expected(input::three(numbers, 4));
     let available = input::three(numbers, 8);
     match Pieces::new_non_extended(class, instruction, p1, p2, data, le, available) {
-        NewPieces::Refused(k) => answer::byte(out, 0, k),
+        NewPieces::Refused(k) => answer::start(out, k),
         NewPieces::Pieces(chain) => told(chain, data, out),
     }
 }

@@ -18,51 +18,28 @@ mod classes;
 mod commands;
 mod cuts;
 mod input;
+mod names;
 mod records;
 mod report;
 mod strings;
 mod walk;
 
-use walk::Tally;
-
-// Replays an operation, prints its line, and adds it to what came before.
-fn line(before: Tally, name: &[u8], operation: u8, file: &[u8]) -> Tally {
-    let found = walk::replay(operation, file);
-    io::write_all(1, name);
-    report::number(b": ", found.answers, b" answers, ");
-    report::number(b"", found.differing, b" differ\n");
-    walk::both(before, found)
-}
-
-fn leaves(file: &[u8]) -> Tally {
-    let tally = line(walk::NONE, b"Class::from_byte", 1, file);
-    let tally = line(tally, b"Range::from_cla", 2, file);
-    let tally = line(tally, b"Aid::try_new", 3, file);
-    let tally = line(tally, b"Aid::try_new_truncatable", 4, file);
-    let tally = line(tally, b"Aid::matches", 5, file);
-    let tally = line(tally, b"take_tag", 6, file);
-    let tally = line(tally, b"take_len", 7, file);
-    let tally = line(tally, b"take_data_object", 8, file);
-    let tally = line(tally, b"get_data_object", 9, file);
-    line(tally, b"Tlv::to_writer", 10, file)
-}
-
-fn above(file: &[u8]) -> Tally {
-    let tally = line(walk::NONE, b"CommandView::try_from", 11, file);
-    let tally = line(tally, b"Command::try_from", 12, file);
-    let tally = line(tally, b"Command::extend_from_command_view", 13, file);
-    let tally = line(tally, b"CommandBuilder::serialize_into", 14, file);
-    let tally = line(tally, b"CommandBuilder::force_extended", 15, file);
-    let tally = line(tally, b"CommandBuilder::eq", 16, file);
-    let tally = line(tally, b"CommandBuilder::should_split", 17, file);
-    line(tally, b"CommandBuilder::new_non_extended", 18, file)
+// A line for each operation.
+fn lines(answers: &[usize; 19], differing: &[usize; 19]) {
+    let mut operation = 1;
+    while operation < 19 {
+        names::show(operation);
+        report::tally(answers[operation], differing[operation]);
+        operation += 1;
+    }
 }
 
 // Whether the file has so many answers as it says, and nothing behind them.
-fn whole(file: &[u8], answers: usize) {
-    report::number(b"the file says ", input::two(file, 0), b" answers");
-    if walk::end(file) == file.len() {
-        if answers == input::two(file, 0) {
+fn whole(file: &[u8], end: usize, answers: usize) {
+    let count = input::two(file, 0);
+    report::number(b"the file says ", count, b" answers");
+    if end == file.len() {
+        if answers == count {
             io::write_all(1, b" and is whole\n");
             return;
         }
@@ -71,12 +48,13 @@ fn whole(file: &[u8], answers: usize) {
 }
 
 fn replay(file: &[u8]) {
-    let leaves = leaves(file);
-    let above = above(file);
-    let all = walk::both(leaves, above);
-    whole(file, all.answers);
-    report::number(b"total: ", all.answers, b" answers, ");
-    report::number(b"", all.differing, b" differ\n");
+    let mut answers = [0usize; 19];
+    let mut differing = [0usize; 19];
+    let end = walk::replay(file, &mut answers, &mut differing);
+    lines(&answers, &differing);
+    whole(file, end, answers[0]);
+    io::write_all(1, b"total");
+    report::tally(answers[0], differing[0]);
 }
 
 fn main() {

@@ -21,10 +21,10 @@ fn wide(n: u32) -> usize {
 // First string: the bytes, as for the next two.
 pub(crate) fn tag(bytes: &[u8], out: &mut [u8; 200]) -> usize {
     match take_tag(Reading::Crate, bytes) {
-        TakeTag::End => answer::byte(out, 0, 11),
-        TakeTag::Unreadable => answer::byte(out, 0, 12),
+        TakeTag::End => answer::start(out, 11),
+        TakeTag::Unreadable => answer::start(out, 12),
         TakeTag::Tag(tag, n) => {
-            let at = answer::byte(out, 0, 0);
+            let at = answer::start(out, 0);
             let at = answer::number(out, at, wide(tag));
             answer::number(out, at, n)
         }
@@ -33,9 +33,9 @@ pub(crate) fn tag(bytes: &[u8], out: &mut [u8; 200]) -> usize {
 
 pub(crate) fn len(bytes: &[u8], out: &mut [u8; 200]) -> usize {
     match take_len(Reading::Crate, bytes) {
-        TakeLen::Unreadable => answer::byte(out, 0, 12),
+        TakeLen::Unreadable => answer::start(out, 12),
         TakeLen::Len(len, n) => {
-            let at = answer::byte(out, 0, 0);
+            let at = answer::start(out, 0);
             let at = answer::number(out, at, len);
             answer::number(out, at, n)
         }
@@ -44,10 +44,10 @@ pub(crate) fn len(bytes: &[u8], out: &mut [u8; 200]) -> usize {
 
 pub(crate) fn object(bytes: &[u8], out: &mut [u8; 200]) -> usize {
     match take_data_object(Reading::Crate, bytes) {
-        TakeDataObject::End => answer::byte(out, 0, 11),
-        TakeDataObject::Unreadable => answer::byte(out, 0, 12),
+        TakeDataObject::End => answer::start(out, 11),
+        TakeDataObject::Unreadable => answer::start(out, 12),
         TakeDataObject::Object(tag, place, len) => {
-            let at = answer::byte(out, 0, 0);
+            let at = answer::start(out, 0);
             let at = answer::number(out, at, wide(tag));
             let at = answer::number(out, at, place);
             answer::number(out, at, len)
@@ -70,10 +70,10 @@ fn front<'a>(tags: &'a [u32], n: usize) -> &'a [u32] {
 
 fn find(record: &[u8], path: &[u32], out: &mut [u8; 200]) -> usize {
     match get_data_object(Reading::Crate, record, path) {
-        GetDataObject::End => answer::byte(out, 0, 11),
-        GetDataObject::Unreadable => answer::byte(out, 0, 12),
+        GetDataObject::End => answer::start(out, 11),
+        GetDataObject::Unreadable => answer::start(out, 12),
         GetDataObject::Value(place, len) => {
-            let at = answer::byte(out, 0, 0);
+            let at = answer::start(out, 0);
             let at = answer::number(out, at, place);
             let at = answer::number(out, at, len);
             answer::string(out, at, value(Reading::Crate, record, path))
@@ -105,9 +105,9 @@ pub(crate) fn write(
     let b2 = input::byte(numbers, 1);
     let b3 = input::byte(numbers, 2);
     match put_data_object([b1, b2, b3], value, room, 0) {
-        PutDataObject::Refused(k) => answer::byte(out, 0, k),
+        PutDataObject::Refused(k) => answer::start(out, k),
         PutDataObject::Written(n) => {
-            let at = answer::byte(out, 0, 0);
+            let at = answer::start(out, 0);
             answer::string(out, at, input::part(room, 0, n))
         }
     }

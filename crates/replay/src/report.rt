@@ -7,6 +7,12 @@ pub(crate) fn number(before: &[u8], n: usize, behind: &[u8]) {
     io::write_all(1, behind);
 }
 
+// The end of a line: how many answers there are, and how many differ.
+pub(crate) fn tally(answers: usize, differing: usize) {
+    number(b": ", answers, b" answers, ");
+    number(b"", differing, b" differ\n");
+}
+
 fn byte(b: u8) {
     io::print_hex(1, b as u64, 2);
 }

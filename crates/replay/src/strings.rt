@@ -9,6 +9,7 @@ fn put(to: &mut [u8; 65700], at: usize, b: u8) -> usize {
     at
 }
 
+// Bytes behind others.
 fn copied(s: &[u8], to: &mut [u8; 65700], from: usize) -> usize {
     let mut at = from;
     let mut i = 0;
@@ -23,7 +24,7 @@ fn stepped(b: u8, step: u8) -> u8 {
     ((b as usize + step as usize) % 256) as u8
 }
 
-// So many bytes, each a step above the one before.
+// So many bytes behind others, each a step above the one before.
 fn filled(to: &mut [u8; 65700], from: usize, n: usize, first: u8, step: u8) -> usize {
     let mut at = from;
     let mut b = first;
@@ -36,6 +37,21 @@ fn filled(to: &mut [u8; 65700], from: usize, n: usize, first: u8, step: u8) -> u
     at
 }
 
+// The string with a filling that stands behind a place: the filling's length, its first byte, its step, the lengths of what stands
+// before and behind it, and these.
+fn with_filling(s: &[u8], to: &mut [u8; 65700]) -> usize {
+    let front = input::one(s, 5);
+    let len = copied(input::part(s, 7, front), to, 0);
+    let len = filled(
+        to,
+        len,
+        input::three(s, 0),
+        input::byte(s, 3),
+        input::byte(s, 4),
+    );
+    copied(input::part(s, 7 + front, input::one(s, 6)), to, len)
+}
+
 // Lays out the string at a place, and says how long it is.
 pub(crate) fn laid(s: &[u8], at: usize, to: &mut [u8; 65700]) -> usize {
     let n = input::one(s, at);
@@ -43,15 +59,7 @@ pub(crate) fn laid(s: &[u8], at: usize, to: &mut [u8; 65700]) -> usize {
     if n < 255 {
         return copied(input::part(s, start, n), to, 0);
     }
-    let fill = input::three(s, start);
-    let first = input::byte(s, input::behind(at, 4));
-    let step = input::byte(s, input::behind(at, 5));
-    let front = input::one(s, input::behind(at, 6));
-    let back = input::one(s, input::behind(at, 7));
-    let start = input::behind(at, 8);
-    let len = copied(input::part(s, start, front), to, 0);
-    let len = filled(to, len, fill, first, step);
-    copied(input::part(s, input::behind(start, front), back), to, len)
+    with_filling(input::part(s, start, 65535), to)
 }
 
 // The place behind the string at a place.

@@ -1,4 +1,4 @@
-// The answers of one operation, each replayed on the proved library.
+// The answers of the file, each replayed on the proved library.
 use crate::aids;
 use crate::builders;
 use crate::classes;
@@ -8,25 +8,6 @@ use crate::input;
 use crate::records;
 use crate::report;
 use crate::strings;
-
-// How many answers were replayed, and how many of them differ.
-pub(crate) struct Tally {
-    pub(crate) answers: usize,
-    pub(crate) differing: usize,
-}
-
-pub(crate) const NONE: Tally = Tally {
-    answers: 0,
-    differing: 0,
-};
-
-// Two tallies as one.
-pub(crate) fn both(a: Tally, b: Tally) -> Tally {
-    Tally {
-        answers: input::behind(a.answers, b.answers),
-        differing: input::behind(a.differing, b.differing),
-    }
-}
 
 // The library's answer to an operation, and its length.
 fn answered(
@@ -107,61 +88,68 @@ fn next(file: &[u8], at: usize) -> usize {
     input::behind(place, 1 + input::one(file, place))
 }
 
-// The tally with the answer of this number in the file, and what the library answers: so many bytes of `out`. The first that
-// differs is shown.
-fn counted(tally: Tally, number: usize, expected: &[u8], out: &[u8; 200], len: usize) -> Tally {
+// One more of an operation, and of all at place 0; says how many of the operation there are now.
+fn one_more(counts: &mut [usize; 19], operation: usize) -> usize {
+    if operation < 1 {
+        return 0;
+    }
+    if 18 < operation {
+        return 0;
+    }
+    let n = input::behind(counts[operation], 1);
+    counts[operation] = n;
+    counts[0] = input::behind(counts[0], 1);
+    n
+}
+
+// Counts the answer of this number in the file, and whether what the library answers differs: so many bytes of `out`. The first of an
+// operation that differs is shown.
+fn counted(
+    answers: &mut [usize; 19],
+    differing: &mut [usize; 19],
+    operation: usize,
+    number: usize,
+    expected: &[u8],
+    out: &[u8; 200],
+    len: usize,
+) {
     let found = input::part(out, 0, len);
-    let answers = input::behind(tally.answers, 1);
+    one_more(answers, operation);
     if check::same(expected, found) {
-        return Tally {
-            answers,
-            differing: tally.differing,
-        };
+        return;
     }
-    if tally.differing == 0 {
+    if one_more(differing, operation) == 1 {
         report::difference(number, expected, found);
-    }
-    Tally {
-        answers,
-        differing: input::behind(tally.differing, 1),
     }
 }
 
-// Replays the answers of an operation.
-pub(crate) fn replay(operation: u8, file: &[u8]) -> Tally {
+// Replays the answers, counts those of each operation and those that differ, and says where the last ends.
+pub(crate) fn replay(file: &[u8], answers: &mut [usize; 19], differing: &mut [usize; 19]) -> usize {
     let mut texts = [0u8; 65700];
     let mut others = [0u8; 65700];
     let mut room = [0u8; 65700];
     let mut out = [0u8; 200];
-    let mut tally = NONE;
     let count = input::two(file, 0);
     let mut at = 2;
     let mut turn = 0;
     while turn < count {
-        if input::byte(file, at) == operation {
-            let asked = asked(file, at);
-            let len = replayed(
-                operation,
-                asked,
-                &mut texts,
-                &mut others,
-                &mut room,
-                &mut out,
-            );
-            tally = counted(tally, turn + 1, expected(file, at), &out, len);
-        }
-        at = next(file, at);
-        turn += 1;
-    }
-    tally
-}
-
-// The place behind the last answer.
-pub(crate) fn end(file: &[u8]) -> usize {
-    let count = input::two(file, 0);
-    let mut at = 2;
-    let mut turn = 0;
-    while turn < count {
+        let len = replayed(
+            input::byte(file, at),
+            asked(file, at),
+            &mut texts,
+            &mut others,
+            &mut room,
+            &mut out,
+        );
+        counted(
+            answers,
+            differing,
+            input::one(file, at),
+            turn + 1,
+            expected(file, at),
+            &out,
+            len,
+        );
         at = next(file, at);
         turn += 1;
     }

@@ -5,10 +5,10 @@ use Rattle.replay.proofs.walk.replay.Statement.{statement}
 use Rattle.replay.proofs.walk.replay.Tie as tie
 
 abbrev Inv-loop : tie.InvT-loop
-Inv-loop operation file texts₀ others₀ room₀ out₀ tally₀ count at₀ turn₀ texts others room out tally at turn = Unit {0}
+Inv-loop file answers₀ differing₀ texts₀ others₀ room₀ out₀ count at₀ turn₀ answers differing texts others room out at turn = Unit {0}
 
 abbrev μ-loop : tie.MeasureT-loop
-μ-loop operation file texts₀ others₀ room₀ out₀ tally₀ count at₀ turn₀ texts others room out tally at turn = count - turn
+μ-loop file answers₀ differing₀ texts₀ others₀ room₀ out₀ count at₀ turn₀ answers differing texts others room out at turn = count - turn
 
 pub replay-spec : {M : Type 1} → statement M
 replay-spec =
@@ -18,6 +18,7 @@ replay-spec =
     μ-loop
     (λ c κs. search needs)
     (λ c. search needs)
+    (λ c κs. search needs)
     (λ c κs. search needs)
     (λ c κs. search needs)
     (λ c κs. search needs)

@@ -2,8 +2,8 @@
 use borrow.Author.Needs.{needs}
 use Prim.Native.Nat.{_-_}
 use lib.ListN.{length}
-use Rattle.replay.proofs.answer.literally.Statement.{statement}
-use Rattle.replay.proofs.answer.literally.Tie as tie
+use Rattle.replay.proofs.answer.put.Statement.{statement}
+use Rattle.replay.proofs.answer.put.Tie as tie
 
 abbrev Inv-loop : tie.InvT-loop
 Inv-loop out₀ from s at₀ i₀ out at i = Unit {0}
@@ -11,8 +11,8 @@ Inv-loop out₀ from s at₀ i₀ out at i = Unit {0}
 abbrev μ-loop : tie.MeasureT-loop
 μ-loop out₀ from s at₀ i₀ out at i = length s - i
 
-pub literally-spec : {M : Type 1} → statement M
-literally-spec =
+pub put-spec : {M : Type 1} → statement M
+put-spec =
     tie.close
     (tie.spec
     Inv-loop
