@@ -202,7 +202,7 @@ module _ (s : List ℕ) where
   unfolding objectOf
   objects-alike e = rw (tags-alike e)
 
--- one level, walked from place a of bytes l on: what is met at its first object, and at its stop
+-- whether such a tag is met at one level, walked from place a of bytes l on
 module _ (t : ℕ) (l : List ℕ) where
   abbrev Met : ℕ → List ℕ → Bool
   Met a s = meetsOf l t (walk Crate a s .items) (walk Crate a s .stop)
