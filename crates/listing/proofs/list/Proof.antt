@@ -45,7 +45,8 @@ module _ (c : tie.After-put-section-arg) where
 
 put-section-requires : tie.Need-put-section-requires
 put-section-requires c κs =
-    ((lies c .0, omega (arith, lies c .1, place c)), left-room (sectionText Commands (itemsAt (input c))) (sectionText Records (itemsAt (drop (middle c) (input c)))) (first c))
+    let fits = left-room (sectionText Commands (itemsAt (input c))) (sectionText Records (itemsAt (drop (middle c) (input c)))) (first c) in
+    ((lies c .0, omega (arith, lies c .1, place c)), fits)
 
 put-section-requires-2 : tie.Need-put-section-requires-2
 put-section-requires-2 c κs =
@@ -73,7 +74,9 @@ fill-requires : tie.Need-fill-requires
 fill-requires c κs = malformed (c .before .before) .room
 
 returns-2 : tie.Need-returns-2
-returns-2 c = listed _ _ _ _ (known (c .before .before .before)) (omega (arith, c .before .before .before .fill-arg .given .0 .1)) (malformed (c .before .before .before) .rest _ _ (c .fill .ensures))
+returns-2 c =
+    let f = c .before .before .before in
+    listed _ _ _ _ (known f) (omega (arith, f .fill-arg .given .0 .1)) (malformed f .rest _ _ (c .fill .ensures))
 
 pub list-spec : {M : Type 1} → statement M
 list-spec =

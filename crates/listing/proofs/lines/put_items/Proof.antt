@@ -44,11 +44,13 @@ behind c =
     itemsText (a .section) (l .k + 1) (items (l .left - 1) (drop (l .at + 2 + c .pair-at .result) (a .input .now)))
 
 next : (c : Read) → let l = c .before .before .loop in let a = c .before .before .before .before .before .args in
-    Left (itemsText (a .section) 1 (items (a .count) (drop (a .from) (a .input .now)))) (a .start) (a .out .now) (here c ++ behind c) (l .place) (l .out)
+    Left (itemsText (a .section) 1 (items (a .count) (drop (a .from) (a .input .now)))) (a .start) (a .out .now)
+    (here c ++ behind c) (l .place) (l .out)
 next c =
     let l = c .before .before .loop in
     let a = c .before .before .before .before .before .args in
-    left-as (text-next (a .section) (l .k) (a .input .now) (l .at) (l .left) (c .pair-at .result) (c .pair-at .ensures .0) (c .before .loop-test .taken)) (l .inv .0)
+    let n = c .pair-at .result in
+    left-as (text-next (a .section) (l .k) (a .input .now) (l .at) (l .left) n (c .pair-at .ensures .0) (c .before .loop-test .taken)) (l .inv .0)
 
 loop-again : tie.Need-loop-again Inv-loop μ-loop
 loop-again c =
@@ -66,7 +68,8 @@ loop-holds : tie.Need-loop-holds Inv-loop μ-loop
 loop-holds c =
     let a = c .before .before .args in
     let p = c .before .before .pre in
-    (left-first (itemsText (a .section) 1 (items (a .count) (drop (a .from) (a .input .now)))) (a .start) (a .out .now) (p .1 .1), p .0 .1, omega (arith, p .0 .0))
+    let whole = left-first (itemsText (a .section) 1 (items (a .count) (drop (a .from) (a .input .now)))) (a .start) (a .out .now) (p .1 .1) in
+    (whole, p .0 .1, omega (arith, p .0 .0))
 
 pub put-items-spec : {M : Type 1} → statement M
 put-items-spec =

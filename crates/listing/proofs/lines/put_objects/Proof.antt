@@ -74,15 +74,18 @@ returns : tie.Need-returns Inv-loop μ-loop
 returns c =
     let t = c .before .before in
     let l = t .before .before in
-    left-none (left-as (lines-end (l .before .before .before .args .k) (l .loop .j) (l .loop .at) (rest t) (read t ∙ ap said (c .enum-told .given .1))) (l .loop .inv .0))
+    let e = lines-end (l .before .before .before .args .k) (l .loop .j) (l .loop .at) (rest t) (read t ∙ ap said (c .enum-told .given .1)) in
+    left-none (left-as e (l .loop .inv .0))
 
 -- an object that cannot be read: its line is the last
 last : (c : tie.After-enum-told2 Inv-loop μ-loop) → let l = c .before .before .before .before in let a = l .before .before .before .args in
-    Left (objectLines (a .k) (a .«record» .now)) (a .start) (a .out .now) (line "%.% refused %\n" (a .k ∷ l .loop .j ∷ 12 ∷ [])) (l .loop .place) (l .loop .out)
+    Left (objectLines (a .k) (a .«record» .now)) (a .start) (a .out .now) (line "%.% refused %\n" (a .k ∷ l .loop .j ∷ 12 ∷ []))
+    (l .loop .place) (l .loop .out)
 last c =
     let t = c .before .before in
     let l = t .before .before in
-    left-as (lines-12 (l .before .before .before .args .k) (l .loop .j) (l .loop .at) (rest t) (read t ∙ ap said (c .enum-told2 .given .1))) (l .loop .inv .0)
+    let e = lines-12 (l .before .before .before .args .k) (l .loop .j) (l .loop .at) (rest t) (read t ∙ ap said (c .enum-told2 .given .1)) in
+    left-as e (l .loop .inv .0)
 
 fill-requires : tie.Need-fill-requires Inv-loop μ-loop
 fill-requires c κs = last (c .before .before .before) .room
