@@ -6,7 +6,7 @@ use mathlib.Core.List.{List, [], _∷_}
 use mathlib.Core.Option.{Option, none, some}
 use native.Mathlib.Decide.{decLe}
 use native.Mathlib.Omega.{arith}
-use borrow.Author.Tests.{le-leb, lt-leb, lt-ltb, le-ltb, eq-eqb, ne-eqb, eqb-false, leb-true, leb-false}
+use borrow.Author.Tests.{le-leb, lt-leb, lt-ltb, le-ltb, ne-eqb, eqb-false, leb-true, leb-false}
 use lib.Dec.{ltb, leb, eqb}
 use lib.ListN.{length, take, drop, length-drop}
 use Rattle.basis.specs.Reply.{Reply, is, no as refused}
@@ -42,16 +42,7 @@ module _ (b : CommandBuilder) (n m : ℕ) where
   unfolding stepOf
   step-long h = rw (lt-ltb 65535 n h)
 
-  pub step-short : n ≤ 65535 → m < 4 → stepOf b n m ≡ refused 14
-  unfolding stepOf
-  step-short few h = rw (le-ltb 65535 n few, lt-ltb m 4 h)
-
   module _ (few : n ≤ 65535) (four : 4 ≤ m) where
-    pub step-no-room : roomOf b n m ≡ 0 → 1 ≤ n → stepOf b n m ≡ refused 14
-    unfolding stepOf
-    step-no-room g h =
-        rw (le-ltb 65535 n few, le-ltb m 4 four, lt-leb n (roomOf b n m) (omega arith), eq-eqb (roomOf b n m) 0 g)
-
     pub step-whole : n ≤ roomOf b n m → stepOf b n m ≡ is none
     unfolding stepOf
     step-whole h = rw (le-ltb 65535 n few, le-ltb m 4 four, le-leb n (roomOf b n m) h)

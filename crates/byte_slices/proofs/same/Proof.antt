@@ -1,9 +1,10 @@
 use borrow.Author.Needs.{needs}
 use mathlib.Core.Path.{_≡_, refl, sym, ap, _∙_}
-use mathlib.Core.Bool.{Bool}
-use Prim.Native.Nat.{ℕ, _-_, _≤_}
+use mathlib.Core.Bool.{Bool, false, cond}
+use Prim.Native.Nat.{_-_, _≤_}
 use native.Mathlib.Omega.{arith}
-use lib.ListN.{length, take}
+use lib.Dec.{eqb}
+use lib.ListN.{length, take, getD}
 use lib.Seq.{take-all}
 use Rattle.byte_slices.specs.Slices.{same}
 use Rattle.byte_slices.proofs.Slices.{other-length, same-next}
@@ -26,8 +27,14 @@ loop-holds c = (refl, omega arith)
 loop-again : tie.Need-loop-again Inv-loop μ-loop
 loop-again c =
     let l = c .before .before .before .before in
-    let a = l .before .before .before .before .args in
-    (c .still .ensures ∙ rw (l .loop .inv .0) (sym (same-next (a .a .now) (a .b .now) (l .loop .i) (omega arith) (omega arith))), omega arith)
+    let s = l .before .before .before .before .args in
+    let a = s .a .now in
+    let b = s .b .now in
+    let i = l .loop .i in (
+      c .still .ensures ∙ ap (λ (ok : Bool). cond (eqb (getD a i 0) (getD b i 0)) ok false) (l .loop .inv .0)
+          ∙ sym (same-next a b i (omega arith) (omega arith)),
+      omega arith,
+    )
 
 returns-2 : tie.Need-returns-2 Inv-loop μ-loop
 returns-2 c =
