@@ -3,6 +3,7 @@ use Prim.Native.Nat.{ℕ, _+_, _-_, _≤_, _<_}
 use mathlib.Core.Path.{_≡_}
 use mathlib.Core.List.{List}
 use native.Mathlib.Omega.{arith}
+use native.Mathlib.Nat.{add-sub-cancel-left}
 use borrow.Author.Tests.{lt-ltb, le-ltb, ltb-false}
 use lib.Dec.{ltb}
 use lib.ListN.{length, getD, take, drop, length-drop}
@@ -13,7 +14,7 @@ use Rattle.class.specs.Class.{fromByte}
 use Rattle.class.specs.declared.Class.{Class}
 use Rattle.class.specs.declared.Reading.{Reading}
 use Rattle.command.specs.Body.{bodyOf}
-use Rattle.command.specs.Command.{viewOf, parseBody, parse, Measured}
+use Rattle.command.specs.Command.{viewOf, parseBody, parse, dataIn, Measured}
 use Rattle.command.specs.declared.CommandView.{CommandView}
 use Rattle.command.specs.declared.body.ParsedLengths.{ParsedLengths}
 use Rattle.command.proofs.Lengths.{Sized, sized}
@@ -67,3 +68,8 @@ pub record Within (s : List ℕ) (v : CommandView) : Type 0 where
 
 pub within : (r : Reading) (s : List ℕ) (v : CommandView) → parse r s ≡ is v → Within s v
 within r s v e = let m = measured r s v e in record { behind = omega arith; inside = omega arith }
+
+-- the part from there to its end is the data
+pub part : (r : Reading) (s : List ℕ) (v : CommandView) → parse r s ≡ is v
+    → take (v .at + v .len - v .at) (drop (v .at) s) ≡ dataIn s (parse r s)
+part r s v e = rw (e, add-sub-cancel-left)

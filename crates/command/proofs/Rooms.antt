@@ -15,6 +15,7 @@ use Rattle.command.specs.declared.owned.Command.{Command}
 use Rattle.command.specs.declared.owned.Owned.the-variants as owned
 use Rattle.command.specs.declared.owned.Extending.the-variants as extending
 use Rattle.command.specs.declared.owned.Extended.{Extended}
+use Rattle.command.proofs.Parsing.{part}
 
 -- a copy: the command is refused, its data do not fit, or they stand at the front
 module _ (r : Reading) (s room : List ℕ) where
@@ -26,12 +27,12 @@ module _ (r : Reading) (s room : List ℕ) where
   too-long v e h = record { reply = rw (e, lt-ltb (length room) (v .len) h); buffer = rw (e, lt-ltb (length room) (v .len) h) }
 
   pub copy : (v : CommandView) (c : Command) (after : List ℕ) → parse r s ≡ is v → v .len ≤ length room → c ≡ takenOf v (v .len) (v .extended)
-      → after ≡ over (take (v .len) (drop (v .at) s)) room → owned-is r s room (owned.Command c) after
+      → after ≡ over (take (v .at + v .len - v .at) (drop (v .at) s)) room → owned-is r s room (owned.Command c) after
   unfolding ownedOf
   copy v c after e h f g =
       record {
         reply = rw (e, le-ltb (length room) (v .len) h, f);
-        buffer = g ∙ rw (e, le-ltb (length room) (v .len) h);
+        buffer = g ∙ rw (part r s v e, e, le-ltb (length room) (v .len) h);
       }
 
 -- held and new data that a room has place for, and that exceed it

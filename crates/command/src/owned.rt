@@ -63,7 +63,9 @@ impl Command {
                 if room.len() < len {
                     return Owned::Refused(2);
                 }
-                bytes::copy(byte_slices::part(apdu, view.at, len), room);
+                let at = view.at;
+                let end = at + len;
+                bytes::copy(&apdu[at..end], room);
                 Owned::Command(taken(view, len, view.extended))
             }
         }
