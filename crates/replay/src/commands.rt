@@ -1,7 +1,6 @@
 // Commands read, owned and extended.
 use crate::answer;
 use crate::input;
-use class::Class;
 use class::Reading;
 use command::Command;
 use command::CommandView;
