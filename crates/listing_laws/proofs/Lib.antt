@@ -1,4 +1,3 @@
-pub mod Example
 pub mod Decimal
 pub mod Encoded
 pub mod Tags
