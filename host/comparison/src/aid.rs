@@ -1,10 +1,17 @@
 //! The AID: every length to 17, every truncated length to 18, every first byte, and what else each test below says.
 
-use gorvisclen::{Refused, AID_NUMBERS, NONE};
+mod recorded;
+mod timed;
+
+use gorvisclen::{Reply, AID_NUMBERS, NONE};
 use original::aid::{Aid, Category, FromSliceError};
 
+pub use self::recorded::record;
+pub use self::timed::time;
+
+use crate::call::{Answer, Call, Left, Names};
 use crate::inputs::Inputs;
-use crate::lent::{bytes, demanded, hex, left, numbers, Outcome};
+use crate::lent::Hex;
 use crate::panics::unless_it_panics;
 use crate::tally::Tally;
 
@@ -48,8 +55,8 @@ fn of_part(part: Option<&[u8]>) -> u64 {
     part.map_or(NONE, |part| part.len() as u64)
 }
 
-fn of_aid(aid: Aid) -> [u64; AID_NUMBERS] {
-    assert_eq!(*aid, *aid.as_bytes());
+#[inline(always)]
+fn of_aid(aid: &Aid) -> [u64; AID_NUMBERS] {
     [
         aid.as_bytes().len() as u64,
         aid.truncated().len() as u64,
@@ -63,123 +70,162 @@ fn of_aid(aid: Aid) -> [u64; AID_NUMBERS] {
     ]
 }
 
-/// Copies a part as the exported function has to.
-fn copy_part(aid: Aid, part: u8, to: &mut [u8], out: &mut [u64]) -> Result<(), u8> {
-    let part = match part {
-        0 => Some(aid.as_bytes()),
-        1 => Some(aid.truncated()),
-        2 => aid.rid(),
-        _ => aid.pix(),
-    };
-    let bytes = part.unwrap_or(&[]);
-    if to.len() < bytes.len() || out.is_empty() {
-        return Err(16);
-    }
-    to[..bytes.len()].copy_from_slice(bytes);
-    out[0] = of_part(part);
-    Ok(())
-}
-
-/// One AID to make.
+/// One AID to make: its name, and its truncated length.
+#[derive(Clone, Copy, Debug)]
 struct Case<'a> {
-    name: &'a [u8],
+    name: Hex<'a, u8>,
     truncated_len: usize,
 }
 
-impl Case<'_> {
-    fn original(&self) -> Result<Aid, u8> {
-        Aid::try_new_truncatable(self.name, self.truncated_len).map_err(refusal)
-    }
-
-    /// Ends the program where the Rust's functions that panic make another AID, or panic where the others make one.
-    fn by_those_that_panic(&self) {
-        let Case {
+impl<'a> Case<'a> {
+    fn of(name: &'a [u8], truncated_len: usize) -> Self {
+        let name = Hex(name);
+        Case {
             name,
             truncated_len,
-        } = *self;
-        let one = unless_it_panics(|| Aid::new_truncatable(name, truncated_len));
-        let same = one == Aid::try_new_truncatable(name, truncated_len).ok();
-        let whole = unless_it_panics(|| Aid::new(name));
-        let same = same && whole == Aid::try_new(name).ok();
-        assert!(same, "the Rust's functions part: {}", self.shown());
+        }
     }
 
-    fn shown(&self) -> String {
-        format!(
-            "name {}, truncated length {}",
-            hex(self.name),
-            self.truncated_len
-        )
+    #[inline(always)]
+    fn made(&self) -> Result<Aid, u8> {
+        Aid::try_new_truncatable(&self.name, self.truncated_len).map_err(refusal)
+    }
+}
+
+/// The AID of a name that is not to be truncated.
+#[derive(Debug)]
+struct Whole<'a>(Hex<'a, u8>);
+
+/// A part of an AID, by its number.
+#[derive(Clone, Copy, Debug)]
+struct Part<'a> {
+    aid: Case<'a>,
+    part: u8,
+}
+
+/// Whether an AID is selected by a name.
+#[derive(Debug)]
+struct Matches<'a> {
+    aid: Case<'a>,
+    asked: Hex<'a, u8>,
+}
+
+impl Part<'_> {
+    #[inline(always)]
+    fn of<'b>(&self, aid: &'b Aid) -> Option<&'b [u8]> {
+        match self.part {
+            0 => Some(aid.as_bytes()),
+            1 => Some(aid.truncated()),
+            2 => aid.rid(),
+            _ => aid.pix(),
+        }
+    }
+}
+
+impl Call<AID_NUMBERS> for Case<'_> {
+    const NAME: &'static str = "Aid::try_new_truncatable";
+    const NUMBERS: &'static [&'static str] = &NUMBERS;
+
+    fn read(&self) -> Vec<u8> {
+        self.name.to_vec()
     }
 
-    fn make(&self, tally: &mut Tally, len: usize) {
-        let theirs = demanded(self.original().map(of_aid), numbers(len)).reading(&[self.name]);
-        let ours = left(numbers(len), |out| {
-            gorvisclen::aid(self.name, self.truncated_len, out)
-        })
-        .reading(&[self.name]);
-        let input = || format!("{}, out of {len} numbers", self.shown());
-        tally.compare("Aid::try_new_truncatable", &NUMBERS, input, &theirs, &ours);
+    fn ours(&self, _: &mut [u8], out: &mut [u64]) -> Reply {
+        gorvisclen::aid(&self.name, self.truncated_len, out)
     }
 
-    /// The same without a truncated length.
-    fn make_whole(&self, tally: &mut Tally, len: usize) {
-        let aid = Aid::try_new(self.name).map_err(refusal);
-        let theirs = demanded(aid.map(of_aid), numbers(len)).reading(&[self.name]);
-        let ours =
-            left(numbers(len), |out| gorvisclen::aid_whole(self.name, out)).reading(&[self.name]);
-        let input = || format!("name {}, out of {len} numbers", hex(self.name));
-        tally.compare("Aid::try_new", &NUMBERS, input, &theirs, &ours);
+    fn rust(&self, _: usize) -> Answer<'_, AID_NUMBERS> {
+        Ok(of_aid(&self.made()?).into())
+    }
+}
+
+impl Call<AID_NUMBERS> for Whole<'_> {
+    const NAME: &'static str = "Aid::try_new";
+    const NUMBERS: &'static [&'static str] = &NUMBERS;
+
+    fn read(&self) -> Vec<u8> {
+        self.0.to_vec()
     }
 
-    fn part(&self, tally: &mut Tally, part: u8, to_len: usize, len: usize) {
-        let (mut to, mut out) = (bytes(to_len), numbers(len));
-        let reply = self
-            .original()
-            .and_then(|aid| copy_part(aid, part, to.part(), out.part()));
-        let theirs = Outcome::new(reply.map_err(Refused), out, to).reading(&[self.name]);
-
-        let (mut to, mut out) = (bytes(to_len), numbers(len));
-        let reply =
-            gorvisclen::aid_part(self.name, self.truncated_len, part, to.part(), out.part());
-        let ours = Outcome::new(reply, out, to).reading(&[self.name]);
-
-        let input = || {
-            format!(
-                "{}, part {part}, to of {to_len} bytes, out of {len} numbers",
-                self.shown()
-            )
-        };
-        tally.compare(PARTS[usize::from(part.min(3))], &[], input, &theirs, &ours);
+    fn ours(&self, _: &mut [u8], out: &mut [u64]) -> Reply {
+        gorvisclen::aid_whole(&self.0, out)
     }
 
-    fn matches(&self, tally: &mut Tally, asked: &[u8], len: usize) {
-        let matches = self.original().map(|aid| [aid.matches(asked).into()]);
-        let theirs = demanded(matches, numbers(len)).reading(&[self.name, asked]);
-        let ours = left(numbers(len), |out| {
-            gorvisclen::aid_matches(self.name, self.truncated_len, asked, out)
-        });
-        let ours = ours.reading(&[self.name, asked]);
-        let input = || {
-            format!(
-                "{}, asked {}, out of {len} numbers",
-                self.shown(),
-                hex(asked)
-            )
-        };
-        tally.compare("Aid::matches", &[], input, &theirs, &ours);
+    fn rust(&self, _: usize) -> Answer<'_, AID_NUMBERS> {
+        let aid = Aid::try_new(&self.0).map_err(refusal)?;
+        Ok(of_aid(&aid).into())
+    }
+}
+
+impl Call<1> for Part<'_> {
+    fn names(&self, _: usize, _: &Answer<1>) -> Names {
+        (PARTS[usize::from(self.part.min(3))], &[])
+    }
+
+    fn read(&self) -> Vec<u8> {
+        self.aid.read()
+    }
+
+    fn ours(&self, to: &mut [u8], out: &mut [u64]) -> Reply {
+        gorvisclen::aid_part(&self.aid.name, self.aid.truncated_len, self.part, to, out)
+    }
+
+    fn rust(&self, _: usize) -> Answer<'_, 1> {
+        let aid = self.aid.made()?;
+        let part = self.of(&aid);
+        let bytes = part.unwrap_or(&[]).to_vec();
+        Ok(Left::written([of_part(part)], 0, bytes))
+    }
+}
+
+impl Call<1> for Matches<'_> {
+    const NAME: &'static str = "Aid::matches";
+
+    fn read(&self) -> Vec<u8> {
+        [&self.aid.name[..], &self.asked].concat()
+    }
+
+    fn ours(&self, _: &mut [u8], out: &mut [u64]) -> Reply {
+        gorvisclen::aid_matches(&self.aid.name, self.aid.truncated_len, &self.asked, out)
+    }
+
+    fn rust(&self, _: usize) -> Answer<'_, 1> {
+        Ok([self.aid.made()?.matches(&self.asked).into()].into())
+    }
+}
+impl Case<'_> {
+    /// Ends the program where the Rust's functions that panic make another AID, or panic where the others make one.
+    fn by_those_that_panic(&self) {
+        let &Case {
+            name,
+            truncated_len,
+        } = self;
+        let one = unless_it_panics(|| Aid::new_truncatable(&name, truncated_len));
+        let whole = unless_it_panics(|| Aid::new(&name));
+        let same = one == self.made().ok() && whole == Aid::try_new(&name).ok();
+        assert!(same, "the Rust's functions part: {self:?}");
+        assert!(one.is_none_or(|aid| *aid == *aid.as_bytes()));
+    }
+
+    fn part(self, tally: &mut Tally, part: u8, to_len: usize, len: usize) {
+        Part { aid: self, part }.compare(tally, to_len, len);
+    }
+
+    fn matches(self, tally: &mut Tally, asked: &[u8], len: usize) {
+        let asked = Hex(asked);
+        Matches { aid: self, asked }.compare_numbers(tally, len);
     }
 
     /// Every operation once or more, with buffers of lengths around those that it needs.
-    fn every_operation(&self, tally: &mut Tally, inputs: &mut Inputs) {
+    fn every_operation(self, tally: &mut Tally, inputs: &mut Inputs) {
         self.by_those_that_panic();
-        self.make(tally, AID_NUMBERS + inputs.below(3));
-        self.make(tally, inputs.below(AID_NUMBERS));
-        self.make_whole(tally, inputs.below(AID_NUMBERS + 3));
+        self.compare_numbers(tally, AID_NUMBERS + inputs.below(3));
+        self.compare_numbers(tally, inputs.below(AID_NUMBERS));
+        Whole(self.name).compare_numbers(tally, inputs.below(AID_NUMBERS + 3));
         for part in [0, 1, 2, 3, 4 + inputs.below(252) as u8] {
             self.part(tally, part, inputs.below(18), inputs.below(4));
         }
-        let name = self.name;
+        let name = self.name.0;
         let shortest = name.get(..self.truncated_len).unwrap_or(name);
         let prefix = &name[..inputs.below(name.len() + 1)];
         let (one_more, many_more) = (inputs.bytes(1), inputs.bytes(256));
@@ -218,11 +264,7 @@ fn every_first_byte(tally: &mut Tally, inputs: &mut Inputs) {
         for first in 0..=last {
             let name = name_of(inputs, first, len);
             for truncated_len in 0..=18 {
-                Case {
-                    name: &name,
-                    truncated_len,
-                }
-                .every_operation(tally, inputs);
+                Case::of(&name, truncated_len).every_operation(tally, inputs);
             }
         }
     }
@@ -234,11 +276,7 @@ fn far_above(tally: &mut Tally, inputs: &mut Inputs) {
         for first in [0xA0, 0xD2, 0xE8, 0xF0, 0x00] {
             let name = name_of(inputs, first, len);
             for truncated_len in [5, 255, 256, 261, 65_536, 65_541, usize::MAX] {
-                Case {
-                    name: &name,
-                    truncated_len,
-                }
-                .every_operation(tally, inputs);
+                Case::of(&name, truncated_len).every_operation(tally, inputs);
             }
         }
     }
@@ -250,13 +288,10 @@ fn every_room(tally: &mut Tally, inputs: &mut Inputs) {
         for len in 0..=17 {
             let name = name_of(inputs, first, len);
             for truncated_len in 0..=18 {
-                let case = Case {
-                    name: &name,
-                    truncated_len,
-                };
+                let case = Case::of(&name, truncated_len);
                 for out_len in 0..=12 {
-                    case.make(tally, out_len);
-                    case.make_whole(tally, out_len);
+                    case.compare_numbers(tally, out_len);
+                    Whole(case.name).compare_numbers(tally, out_len);
                 }
                 for part in [0, 1, 2, 3, 255] {
                     for to_len in 0..=17 {
@@ -269,25 +304,24 @@ fn every_room(tally: &mut Tally, inputs: &mut Inputs) {
     }
 }
 
-/// A damaged copy of a registered AID.
+/// A registered AID.
+const PIV: &[u8] = &[
+    0xA0, 0x00, 0x00, 0x03, 0x08, 0x00, 0x00, 0x10, 0x00, 0x01, 0x00,
+];
+
+/// A damaged copy of it.
 fn damaged(tally: &mut Tally, inputs: &mut Inputs) {
-    let registered = [
-        0xA0, 0x00, 0x00, 0x03, 0x08, 0x00, 0x00, 0x10, 0x00, 0x01, 0x00,
-    ];
-    let name = inputs.damaged(&registered);
-    let case = Case {
-        name: &name,
-        truncated_len: inputs.below(name.len() + 2),
-    };
+    let name = inputs.damaged(PIV);
+    let case = Case::of(&name, inputs.below(name.len() + 2));
     case.every_operation(tally, inputs);
-    case.matches(tally, &registered, 1);
+    case.matches(tally, PIV, 1);
 }
 
 /// Any AID, and a damaged copy of a registered one.
 pub fn random(tally: &mut Tally, inputs: &mut Inputs) {
     let first = match inputs.below(3) {
-        0 => [0xA0, 0xD0, 0xE0, 0xF0][inputs.below(4)] | inputs.below(16) as u8,
-        _ => inputs.number() as u8,
+        0 => inputs.one_of(&[0xA0, 0xD0, 0xE0, 0xF0]) | inputs.below(16) as u8,
+        _ => inputs.byte(),
     };
     let len = inputs.below(18);
     let name = name_of(inputs, first, len);
@@ -295,11 +329,7 @@ pub fn random(tally: &mut Tally, inputs: &mut Inputs) {
         0 => inputs.number() as usize >> inputs.below(64),
         _ => inputs.below(len + 2),
     };
-    Case {
-        name: &name,
-        truncated_len,
-    }
-    .every_operation(tally, inputs);
+    Case::of(&name, truncated_len).every_operation(tally, inputs);
     damaged(tally, inputs);
 }
 

@@ -1,36 +1,61 @@
 //! Commands built: every expected length, every length of the data to 65,540, every mode byte, and what else each test below says.
 //! They run beside the Rust. Short only with more than 255 bytes or with Max, it builds nothing for a caller: a model stands there.
 
+mod asked;
 mod edges;
 mod fields;
 mod model;
 mod operations;
-mod rust;
+pub mod recorded;
+mod timed;
 
 use std::hint::black_box;
 
 use gorvisclen::{EXPECTED_MAX, EXTENDED_FORCED, EXTENDED_SUPPORTED};
 
+pub use self::asked::{bytes_of, expected, Asked};
 use self::fields::{
     some_expected, some_header, some_mode, EXPECTED, HEADERS, LONG, MODES, REFUSED, SHORT, TOO_LONG,
 };
-pub use self::operations::Asked;
+use self::operations::{read_back, Equals, Force, Length, Write};
+pub use self::recorded::record;
+pub use self::timed::time;
+use crate::call::{Call, Unread};
 use crate::inputs::Inputs;
-use crate::lent::places_past;
+use crate::lent::{places_past, Hex};
 use crate::tally::Tally;
 
+impl Asked<'_> {
+    fn length(self, tally: &mut Tally, len: usize) {
+        Length(self).compare_numbers(tally, len);
+    }
+
+    fn force(self, tally: &mut Tally, len: usize) {
+        Force(self).compare_numbers(tally, len);
+    }
+
+    fn write(self, tally: &mut Tally, buffer_len: usize, at: usize, len: usize) {
+        Write { asked: self, at }.compare(tally, buffer_len, len);
+    }
+
+    fn equals(self, tally: &mut Tally, apdu: &[u8], len: usize) {
+        let apdu = Hex(apdu);
+        Equals { asked: self, apdu }.compare_numbers(tally, len);
+    }
+}
+
 /// Both lengths, with `out` long enough and too short.
-fn every_number(tally: &mut Tally, inputs: &mut Inputs, asked: &Asked) {
-    asked.required_len(tally, 1 + inputs.below(2), true);
-    asked.force_extended(tally, 1 + inputs.below(2), true);
+fn every_number(tally: &mut Tally, inputs: &mut Inputs, asked: Asked) {
+    asked.length(tally, 1 + inputs.below(2));
+    asked.force(tally, 1 + inputs.below(2));
     match inputs.below(2) {
-        0 => asked.required_len(tally, 0, true),
-        _ => asked.force_extended(tally, 0, true),
+        0 => asked.length(tally, 0),
+        _ => asked.force(tally, 0),
     }
 }
 
 /// Buffers that it fits exactly from a place, that are a byte short and a byte longer; and places around the end.
-fn around_the_end(tally: &mut Tally, inputs: &mut Inputs, asked: &Asked, before: usize) {
+fn around_the_end(tally: &mut Tally, inputs: &mut Inputs, asked: Asked, before: usize) {
     let need = asked.len_in(asked.mode);
     let exact = before + need;
     for buffer_len in [exact, exact - 1, exact + 1] {
@@ -44,8 +69,8 @@ fn around_the_end(tally: &mut Tally, inputs: &mut Inputs, asked: &Asked, before:
 }
 
 /// Commands that are equal to one to build: its own bytes, in which Le is lowered and Max is 65,536; then its fields in both forms.
-fn equal(asked: &Asked, ne: u32) -> Vec<Vec<u8>> {
-    let &Asked {
+fn equal(asked: Asked, ne: u32) -> Vec<Vec<u8>> {
+    let Asked {
         header, le, data, ..
     } = asked;
     let mut apdus = vec![model::command(header, le, asked.mode, data)];
@@ -56,8 +81,8 @@ fn equal(asked: &Asked, ne: u32) -> Vec<Vec<u8>> {
 }
 
 /// Commands with another header or another expected length.
-fn other_numbers(inputs: &mut Inputs, asked: &Asked, (ne, form): (u32, u8)) -> Vec<Vec<u8>> {
-    let &Asked { header, data, .. } = asked;
+fn other_numbers(inputs: &mut Inputs, asked: Asked, (ne, form): (u32, u8)) -> Vec<Vec<u8>> {
+    let Asked { header, data, .. } = asked;
     let mut apdus = vec![];
     for i in 0..4 {
         let mut other = header;
@@ -70,8 +95,8 @@ fn other_numbers(inputs: &mut Inputs, asked: &Asked, (ne, form): (u32, u8)) -> V
 }
 
 /// Commands with other data.
-fn other_data(inputs: &mut Inputs, asked: &Asked, (ne, form): (u32, u8)) -> Vec<Vec<u8>> {
-    let &Asked { header, data, .. } = asked;
+fn other_data(inputs: &mut Inputs, asked: Asked, (ne, form): (u32, u8)) -> Vec<Vec<u8>> {
+    let Asked { header, data, .. } = asked;
     let n = data.len();
     let mut apdus = vec![];
     if n > 0 {
@@ -95,26 +120,26 @@ fn other_data(inputs: &mut Inputs, asked: &Asked, (ne, form): (u32, u8)) -> Vec<
 }
 
 /// Held against commands that are equal, that differ in one field, and that are refused.
-fn every_comparison(tally: &mut Tally, inputs: &mut Inputs, asked: &Asked) {
+fn every_comparison(tally: &mut Tally, inputs: &mut Inputs, asked: Asked) {
     let ne = model::compared(asked.le);
     let mut apdus = equal(asked, ne);
     let form = 1 + inputs.below(2) as u8;
     apdus.extend(other_numbers(inputs, asked, (ne, form)));
     apdus.extend(other_data(inputs, asked, (ne, form)));
     apdus.push(inputs.damaged(&apdus[1]));
-    apdus.push(REFUSED[inputs.below(REFUSED.len())].to_vec());
+    apdus.push(inputs.one_of(&REFUSED).to_vec());
     for apdu in &apdus {
         asked.equals(tally, apdu, 1 + inputs.below(2));
     }
     asked.equals(tally, &apdus[inputs.below(apdus.len())], 0);
 }
 
-fn every_operation(tally: &mut Tally, inputs: &mut Inputs, asked: &Asked) {
+fn every_operation(tally: &mut Tally, inputs: &mut Inputs, asked: Asked) {
     every_number(tally, inputs, asked);
     let before = inputs.below(4);
     around_the_end(tally, inputs, asked, before);
     if asked.header[0] != 0xFF {
-        asked.read_back(tally, before);
+        read_back(tally, asked, before);
     }
     every_comparison(tally, inputs, asked);
 }
@@ -129,7 +154,7 @@ fn every_boundary(tally: &mut Tally, inputs: &mut Inputs) {
                     let header = some_header(inputs);
                     let start = inputs.below(65_536 - n);
                     let asked = Asked::new(header, le, mode, &row[start..start + n]);
-                    every_operation(tally, inputs, &asked);
+                    every_operation(tally, inputs, asked);
                 }
             }
         }
@@ -144,7 +169,7 @@ fn far_places(tally: &mut Tally, inputs: &mut Inputs) {
             for mode in MODES {
                 let asked = Asked::new(HEADERS[1], le, mode, &row[..n]);
                 for before in [255, 65_532, 66_000] {
-                    around_the_end(tally, inputs, &asked, before);
+                    around_the_end(tally, inputs, asked, before);
                 }
             }
         }
@@ -159,13 +184,13 @@ fn every_expected_length(tally: &mut Tally, inputs: &mut Inputs) {
         for mode in MODES {
             for n in [0, 1, 255, 256] {
                 let asked = Asked::new(header, le, mode, &row[..n]);
-                asked.required_len(tally, 1, true);
+                asked.length(tally, 1);
                 if n < 2 {
                     asked.write(tally, 12, 1, 1);
-                    asked.read_back(tally, 0);
+                    read_back(tally, asked, 0);
                 }
                 if mode > 0 || le % 64 == 0 {
-                    asked.force_extended(tally, 1, true);
+                    asked.force(tally, 1);
                 }
             }
         }
@@ -181,9 +206,9 @@ fn every_length(tally: &mut Tally, inputs: &mut Inputs) {
         for mode in MODES {
             for le in [0, 1, 256, 257, EXPECTED_MAX] {
                 let asked = Asked::new(header, le, mode, &row[..n]);
-                asked.required_len(tally, 1, false);
+                Unread(Length(asked)).compare_numbers(tally, 1);
                 if mode > 0 {
-                    asked.force_extended(tally, 1, false);
+                    Unread(Force(asked)).compare_numbers(tally, 1);
                 }
             }
         }
@@ -198,7 +223,7 @@ fn every_mode(tally: &mut Tally, inputs: &mut Inputs) {
         for n in [0, 1, 255, 256] {
             for le in [0, 1, 256, 257, 65_535, EXPECTED_MAX] {
                 let asked = Asked::new(some_header(inputs), le, mode, &row[..n]);
-                every_operation(tally, inputs, &asked);
+                every_operation(tally, inputs, asked);
             }
         }
     }
@@ -215,7 +240,7 @@ fn every_header(tally: &mut Tally, inputs: &mut Inputs) {
                 let data = &inputs.bytes(n);
                 let le = some_expected(inputs);
                 let asked = Asked::new(header, le, mode, data);
-                every_operation(tally, inputs, &asked);
+                every_operation(tally, inputs, asked);
             }
         }
     }
@@ -278,11 +303,11 @@ fn every_place_at_a_boundary(tally: &mut Tally, inputs: &mut Inputs) {
 /// Data that are too long: 13, before 16 and behind 3; and each refusal of a command read beside it.
 fn too_long(tally: &mut Tally, inputs: &mut Inputs, header: [u8; 4], mode: u8, data: &[u8]) {
     let n = data.len();
-    let le = EXPECTED[inputs.below(EXPECTED.len())];
+    let le = inputs.one_of(&EXPECTED);
     let asked = Asked::new(header, le, mode, data);
     for len in 0..=2 {
-        asked.required_len(tally, len, true);
-        asked.force_extended(tally, len, true);
+        asked.length(tally, len);
+        asked.force(tally, len);
     }
     for (buffer_len, at) in [(n + 20, 3), (0, 0), (0, 1), (n, 0), (8, usize::MAX)] {
         asked.write(tally, buffer_len, at, inputs.below(3));
@@ -333,7 +358,7 @@ pub fn random(tally: &mut Tally, inputs: &mut Inputs) {
     let data = &inputs.bytes(n);
     let (header, le) = (some_header(inputs), some_expected(inputs));
     let asked = Asked::new(header, le, some_mode(inputs), data);
-    every_operation(tally, inputs, &asked);
+    every_operation(tally, inputs, asked);
     // Buffers that end in the header, or in Lc.
     for _ in 0..2 {
         asked.write(tally, inputs.below(9), inputs.below(3), 1);

@@ -1,13 +1,15 @@
 //! The class byte: every byte, every operation, `out` of every length to 13; and again in any order.
 
-use gorvisclen::{CLASS_CONSTANTS, CLASS_NUMBERS, NONE};
+use gorvisclen::{Reply, CLASS_CONSTANTS, CLASS_NUMBERS, NONE};
 use original::command::class::{
-    Chain, Class, Interindustry, InvalidClass, Range, SecureMessaging, NO_SM_CLA, SM_CLA, ZERO_CLA,
+    Chain, Class, Interindustry, Range, SecureMessaging, NO_SM_CLA, SM_CLA, ZERO_CLA,
 };
 
+use crate::call::{Answer, Call};
 use crate::inputs::Inputs;
-use crate::lent::{demanded, left, numbers};
+use crate::record::{File, Recorded, Text};
 use crate::tally::Tally;
+use crate::timing::{Lines, Size};
 
 /// What each number of a class is.
 const NUMBERS: [&str; CLASS_NUMBERS] = [
@@ -86,54 +88,129 @@ fn of_channel(channel: Option<u8>) -> u64 {
     channel.map_or(NONE, u64::from)
 }
 
-fn of_class(class: Class) -> [u64; CLASS_NUMBERS] {
-    let cla = class.into_inner();
-    let standard = standard_secure_messaging(cla);
+type Numbers = [u64; CLASS_NUMBERS];
+
+/// The numbers that the Rust has; those of the standard reading are zeros.
+#[inline(always)]
+fn of_class(class: Class) -> Numbers {
     [
-        cla.into(),
+        class.into_inner().into(),
         of_range(class.range()),
         of_secure_messaging(class.secure_messaging()),
-        of_secure_messaging(standard),
+        0,
         class.secure_messaging().none().into(),
-        (standard == SecureMessaging::None).into(),
+        0,
         of_chain(class.chain()),
         class.chain().last_or_only().into(),
         class.chain().not_the_last().into(),
         of_channel(class.channel()),
-        of_channel(standard_channel(cla)),
+        0,
     ]
 }
 
-fn refusal(_: InvalidClass) -> u8 {
-    3
+/// The places of the numbers of the standard reading.
+const STANDARD: [usize; 3] = [3, 5, 10];
+
+/// The same numbers, those of the standard reading by the tables.
+fn with_standard(mut numbers: Numbers) -> Numbers {
+    let cla = numbers[0] as u8;
+    let messaging = standard_secure_messaging(cla);
+    let none = messaging == SecureMessaging::None;
+    let channel = of_channel(standard_channel(cla));
+    for (place, n) in
+        STANDARD
+            .into_iter()
+            .zip([of_secure_messaging(messaging), none.into(), channel])
+    {
+        numbers[place] = n;
+    }
+    numbers
+}
+
+fn made(cla: u8) -> Result<Class, u8> {
+    Class::from_byte(cla).map_err(|_| 3)
+}
+
+/// The class of a byte.
+#[derive(Debug)]
+struct Make(u8);
+
+impl Call<CLASS_NUMBERS> for Make {
+    const NAME: &'static str = "Class::from_byte";
+    const NUMBERS: &'static [&'static str] = &NUMBERS;
+
+    fn ours(&self, _: &mut [u8], out: &mut [u64]) -> Reply {
+        gorvisclen::class(self.0, out)
+    }
+
+    fn rust(&self, _: usize) -> Answer<'_, CLASS_NUMBERS> {
+        Ok(of_class(made(self.0)?).into())
+    }
+
+    fn theirs(&self, _: usize) -> Answer<'_, CLASS_NUMBERS> {
+        Ok(with_standard(of_class(made(self.0)?)).into())
+    }
+}
+
+/// The same with its chaining bit set.
+#[derive(Debug)]
+struct Chained(u8);
+
+impl Call<CLASS_NUMBERS> for Chained {
+    const NAME: &'static str = "Class::as_chained";
+    const NUMBERS: &'static [&'static str] = &NUMBERS;
+
+    fn ours(&self, _: &mut [u8], out: &mut [u64]) -> Reply {
+        gorvisclen::class_as_chained(self.0, out)
+    }
+
+    fn rust(&self, _: usize) -> Answer<'_, CLASS_NUMBERS> {
+        Ok(of_class(made(self.0)?.as_chained()).into())
+    }
+
+    fn theirs(&self, _: usize) -> Answer<'_, CLASS_NUMBERS> {
+        Ok(with_standard(of_class(made(self.0)?.as_chained())).into())
+    }
+}
+
+#[derive(Debug)]
+struct RangeOf(u8);
+
+impl Call<1> for RangeOf {
+    const NAME: &'static str = "Range::from_cla";
+
+    fn ours(&self, _: &mut [u8], out: &mut [u64]) -> Reply {
+        gorvisclen::range(self.0, out)
+    }
+
+    fn rust(&self, _: usize) -> Answer<'_, 1> {
+        let range = Range::from_cla(self.0).map_err(|_| 3)?;
+        Ok([of_range(range)].into())
+    }
+}
+
+#[derive(Debug)]
+struct Constants;
+
+impl Call<CLASS_CONSTANTS> for Constants {
+    const NAME: &'static str = "the constants of class";
+    const NUMBERS: &'static [&'static str] = &CONSTANTS;
+
+    fn ours(&self, _: &mut [u8], out: &mut [u64]) -> Reply {
+        gorvisclen::class_constants(out)
+    }
+
+    fn rust(&self, _: usize) -> Answer<'_, CLASS_CONSTANTS> {
+        let constants = [ZERO_CLA, NO_SM_CLA, SM_CLA];
+        Ok(constants.map(|class| class.into_inner().into()).into())
+    }
 }
 
 /// Every operation on a class byte, with `out` of a length.
 fn every_operation(tally: &mut Tally, cla: u8, len: usize) {
-    let lent = || numbers(len);
-    let input = || format!("class {cla:02X}, out of {len} numbers");
-    let class = Class::from_byte(cla).map_err(refusal);
-
-    let theirs = demanded(class.map(of_class), lent());
-    let ours = left(lent(), |out| gorvisclen::class(cla, out));
-    tally.compare("Class::from_byte", &NUMBERS, input, &theirs, &ours);
-
-    let theirs = demanded(class.map(|class| of_class(class.as_chained())), lent());
-    let ours = left(lent(), |out| gorvisclen::class_as_chained(cla, out));
-    tally.compare("Class::as_chained", &NUMBERS, input, &theirs, &ours);
-
-    let range = Range::from_cla(cla).map_err(refusal);
-    let theirs = demanded(range.map(|range| [of_range(range)]), lent());
-    let ours = left(lent(), |out| gorvisclen::range(cla, out));
-    tally.compare("Range::from_cla", &[], input, &theirs, &ours);
-}
-
-fn constants(tally: &mut Tally, len: usize) {
-    let constants = [ZERO_CLA, NO_SM_CLA, SM_CLA].map(|class| u64::from(class.into_inner()));
-    let theirs = demanded(Ok(constants), numbers(len));
-    let ours = left(numbers(len), gorvisclen::class_constants);
-    let input = || format!("out of {len} numbers");
-    tally.compare("the constants of class", &CONSTANTS, input, &theirs, &ours);
+    Make(cla).compare_numbers(tally, len);
+    Chained(cla).compare_numbers(tally, len);
+    RangeOf(cla).compare_numbers(tally, len);
 }
 
 /// Any class bytes.
@@ -141,11 +218,11 @@ pub fn random(tally: &mut Tally, inputs: &mut Inputs) {
     for _ in 0..4 {
         let cla = match inputs.below(16) {
             0 => 0xFF,
-            _ => inputs.number() as u8,
+            _ => inputs.byte(),
         };
         every_operation(tally, cla, inputs.below(CLASS_NUMBERS + 3));
     }
-    constants(tally, inputs.below(6));
+    Constants.compare_numbers(tally, inputs.below(6));
 }
 
 pub fn compare(tally: &mut Tally, inputs: &mut Inputs) {
@@ -153,9 +230,51 @@ pub fn compare(tally: &mut Tally, inputs: &mut Inputs) {
         for cla in 0..=255 {
             every_operation(tally, cla, len);
         }
-        constants(tally, len);
+        Constants.compare_numbers(tally, len);
     }
     for _ in 0..5_000 {
         random(tally, inputs);
     }
+}
+
+/// The Rust's numbers in a byte each, its class once chained, and whether it is each of the constants.
+fn recorded(class: Class, answer: Recorded) -> Recorded {
+    let numbers = of_class(class).map(|n| n.min(255) as u8);
+    let places = (0..CLASS_NUMBERS).filter(|place| !STANDARD.contains(place));
+    let numbers: Vec<u8> = places.map(|place| numbers[place]).collect();
+    let constants = [ZERO_CLA, NO_SM_CLA, SM_CLA].map(|constant| (class == constant).into());
+    answer
+        .bytes(&numbers)
+        .byte(class.as_chained().into_inner())
+        .bytes(&constants)
+}
+
+pub fn record(file: &mut File, _: &mut Inputs) {
+    for byte in 0..=u8::MAX {
+        let none = &Text::none();
+        file.add(1, none, &[byte], Recorded::of(made(byte), recorded));
+        let range = Range::from_cla(byte).map_err(|_| 3);
+        let of_range = |range, answer: Recorded| answer.byte(of_range(range) as u8);
+        file.add(2, none, &[byte], Recorded::of(range, of_range));
+    }
+}
+
+/// The Rust gives the 8 numbers that it has; ours gives these and the 3 of the standard reading.
+pub fn time(lines: &mut Lines) {
+    let size = Size::default();
+    let every: Vec<Make> = (0..=255).map(Make).collect();
+    lines.calls("class, every byte", &every, size);
+    for (name, cla) in [
+        ("  first interindustry, 0D", 0x0D),
+        ("  further interindustry, 65", 0x65),
+        ("  reserved, 21", 0x21),
+        ("  proprietary, 84", 0x84),
+        ("  refused 3, FF", 0xFF),
+    ] {
+        lines.calls(name, &[Make(cla)], size);
+    }
+    let every: Vec<Chained> = (0..=255).map(Chained).collect();
+    lines.calls("class, chained, every byte", &every, size);
+    let every: Vec<RangeOf> = (0..=255).map(RangeOf).collect();
+    lines.calls("range of a class, every byte", &every, size);
 }

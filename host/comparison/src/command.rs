@@ -2,14 +2,21 @@
 //! runs beside the Rust; the standard reading, which the Rust does not have, beside a table.
 
 mod operations;
+mod parsed;
+mod recorded;
 mod standard;
+mod timed;
 
 use gorvisclen::{COMMAND_NUMBERS, CRATE_READING, OWNED_NUMBERS, STANDARD_READING};
 
-pub use self::operations::by_rust;
-use self::operations::{extended_past, Asked, Piece, Room, ROOMS, SHORT_ROOMS};
+use self::operations::{Asked, Data, Extend, Own, Parse, Piece, Room, ROOMS, SHORT_ROOMS};
+pub use self::parsed::{by_rust, of_owned};
+pub use self::recorded::{commands, record};
 use self::standard::CASES;
+pub use self::timed::time;
+use crate::call::{Call, Unread};
 use crate::inputs::Inputs;
+use crate::lent::Hex;
 use crate::tally::Tally;
 
 /// A command of each of the seven cases; one that only the standard reading refuses; refused ones.
@@ -38,26 +45,23 @@ fn rooms_around(n: usize) -> [&'static Room; 2] {
 /// Parsed, its data, and owned, with buffers and rooms of lengths around those that each needs.
 fn every_reading(tally: &mut Tally, inputs: &mut Inputs, apdu: &[u8]) {
     for reading in [CRATE_READING, 1 + inputs.below(255) as u8] {
-        let asked = Asked { reading, apdu };
-        asked.parse(tally, COMMAND_NUMBERS + inputs.below(3), true);
-        asked.parse(tally, inputs.below(COMMAND_NUMBERS), true);
+        let asked = Asked::of(reading, apdu);
+        Parse(asked).compare_numbers(tally, COMMAND_NUMBERS + inputs.below(3));
+        Parse(asked).compare_numbers(tally, inputs.below(COMMAND_NUMBERS));
         let n = asked.data_len();
-        asked.data(tally, n, inputs.below(3));
-        asked.data(tally, n.saturating_sub(1), 1);
-        asked.data(tally, n + inputs.below(20), 1);
-        let [enough, less] = rooms_around(n);
-        asked.own(tally, enough, OWNED_NUMBERS + inputs.below(3));
-        asked.own(tally, less, OWNED_NUMBERS + inputs.below(3));
+        Data(asked).compare(tally, n, inputs.below(3));
+        Data(asked).compare(tally, n.saturating_sub(1), 1);
+        Data(asked).compare(tally, n + inputs.below(20), 1);
+        for room in rooms_around(n) {
+            Own(asked).compare(tally, room.len, OWNED_NUMBERS + inputs.below(3));
+        }
         let any = &ROOMS[inputs.below(SHORT_ROOMS)];
-        asked.own(tally, any, inputs.below(OWNED_NUMBERS + 3));
+        Own(asked).compare(tally, any.len, inputs.below(OWNED_NUMBERS + 3));
     }
-    let asked = Asked {
-        reading: STANDARD_READING,
-        apdu,
-    };
+    let asked = Asked::of(STANDARD_READING, apdu);
     let n = asked.data_len();
     for room_len in [n, n.saturating_sub(1), n + inputs.below(20)] {
-        asked.own_by_table(tally, room_len, OWNED_NUMBERS);
+        Own(asked).compare(tally, room_len, OWNED_NUMBERS);
     }
 }
 
@@ -92,7 +96,11 @@ fn every_extension(tally: &mut Tally, inputs: &mut Inputs, apdu: &[u8]) {
     for len in past {
         if len > room.len {
             let out_len = OWNED_NUMBERS - usize::from(inputs.below(8) == 0);
-            extended_past(tally, len, room.len, &Piece { apdu, out_len });
+            Extend {
+                len,
+                apdu: Hex(apdu),
+            }
+            .compare(tally, room.len, out_len);
         }
     }
 }
@@ -148,10 +156,10 @@ fn every_short_body(tally: &mut Tally, inputs: &mut Inputs) {
             };
             let apdu = &[header, &body].concat();
             for reading in [CRATE_READING, STANDARD_READING] {
-                let asked = Asked { reading, apdu };
-                asked.parse(tally, COMMAND_NUMBERS, true);
-                asked.data(tally, inputs.below(3), 1);
-                asked.own(tally, &ROOMS[inputs.below(3)], OWNED_NUMBERS);
+                let asked = Asked::of(reading, apdu);
+                Parse(asked).compare_numbers(tally, COMMAND_NUMBERS);
+                Data(asked).compare(tally, inputs.below(3), 1);
+                Own(asked).compare(tally, ROOMS[inputs.below(3)].len, OWNED_NUMBERS);
             }
             let room = &ROOMS[inputs.below(3)];
             let out_len = OWNED_NUMBERS;
@@ -166,9 +174,9 @@ fn every_header(tally: &mut Tally, inputs: &mut Inputs) {
         let apdu = EDGES[inputs.below(EDGES.len())];
         let apdu = &[&number.to_be_bytes(), &apdu[2..]].concat();
         for reading in [CRATE_READING, STANDARD_READING] {
-            let asked = Asked { reading, apdu };
-            asked.parse(tally, COMMAND_NUMBERS, true);
-            asked.own(tally, &ROOMS[4], OWNED_NUMBERS);
+            let asked = Asked::of(reading, apdu);
+            Parse(asked).compare_numbers(tally, COMMAND_NUMBERS);
+            Own(asked).compare(tally, ROOMS[4].len, OWNED_NUMBERS);
         }
     }
 }
@@ -179,7 +187,7 @@ fn every_expected_length(tally: &mut Tally) {
         for front in [&[0][..], &[0, 0, 0], &[0, 0, 1, 0xAA]] {
             let apdu = &[&[0x00, 0xC0, 0x00, 0x00], front, &le.to_be_bytes()].concat();
             for reading in [CRATE_READING, STANDARD_READING] {
-                Asked { reading, apdu }.parse(tally, COMMAND_NUMBERS, true);
+                Parse(Asked::of(reading, apdu)).compare_numbers(tally, COMMAND_NUMBERS);
             }
         }
     }
@@ -205,7 +213,8 @@ fn every_length(tally: &mut Tally, inputs: &mut Inputs) {
             row[4..4 + field.len()].copy_from_slice(&field);
             let apdu = &row[..4 + l];
             for reading in [CRATE_READING, STANDARD_READING] {
-                Asked { reading, apdu }.parse(tally, COMMAND_NUMBERS, false);
+                let parse = Unread(Parse(Asked::of(reading, apdu)));
+                parse.compare_numbers(tally, COMMAND_NUMBERS);
             }
         }
     }
@@ -235,12 +244,12 @@ fn every_boundary(tally: &mut Tally, inputs: &mut Inputs) {
 fn every_buffer(tally: &mut Tally) {
     for apdu in EDGES {
         for reading in 0..=255 {
-            let asked = Asked { reading, apdu };
+            let asked = Asked::of(reading, apdu);
             for len in 0..=COMMAND_NUMBERS + 2 {
-                asked.parse(tally, len, true);
+                Parse(asked).compare_numbers(tally, len);
                 for room in &ROOMS[..5] {
-                    asked.data(tally, room.len, len);
-                    asked.own(tally, room, len);
+                    Data(asked).compare(tally, room.len, len);
+                    Own(asked).compare(tally, room.len, len);
                 }
             }
         }
@@ -250,7 +259,11 @@ fn every_buffer(tally: &mut Tally) {
                     (room.extended)(tally, len, &[Piece { apdu, out_len }]);
                 }
                 for len in room.len + 1..=room.len + 4 {
-                    extended_past(tally, len, room.len, &Piece { apdu, out_len });
+                    Extend {
+                        len,
+                        apdu: Hex(apdu),
+                    }
+                    .compare(tally, room.len, out_len);
                 }
             }
         }
@@ -265,10 +278,12 @@ fn every_room(tally: &mut Tally, inputs: &mut Inputs) {
                 let apdu = some_command(inputs, n);
                 let damaged = inputs.damaged(&apdu);
                 for room in &ROOMS {
-                    let asked = |apdu, reading| Asked { reading, apdu };
-                    asked(&apdu[..], CRATE_READING).own(tally, room, OWNED_NUMBERS);
-                    asked(&apdu, STANDARD_READING).own(tally, room, inputs.below(9));
-                    asked(&damaged, CRATE_READING).own(tally, room, OWNED_NUMBERS);
+                    let mut own = |reading, apdu, len| {
+                        Own(Asked::of(reading, apdu)).compare(tally, room.len, len);
+                    };
+                    own(CRATE_READING, &apdu, OWNED_NUMBERS);
+                    own(STANDARD_READING, &apdu, inputs.below(9));
+                    own(CRATE_READING, &damaged, OWNED_NUMBERS);
                 }
             }
         }

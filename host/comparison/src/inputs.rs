@@ -8,16 +8,15 @@ pub struct Inputs {
 }
 
 impl Inputs {
+    pub fn of(state: u64) -> Self {
+        Inputs { state, row: None }
+    }
+
     /// Those of the job with a number, in a run with a seed.
     pub fn new(seed: u64, job: u64) -> Self {
-        let mut of_seed = Inputs {
-            state: seed,
-            row: None,
-        };
-        let state = of_seed.number().wrapping_add(job);
-        let mut of_job = Inputs { state, row: None };
-        of_job.state = of_job.number();
-        of_job
+        let of_seed = Inputs::of(seed).number();
+        let of_job = Inputs::of(of_seed.wrapping_add(job)).number();
+        Inputs::of(of_job)
     }
 
     pub fn number(&mut self) -> u64 {
@@ -41,8 +40,17 @@ impl Inputs {
         (self.number() % end as u64) as usize
     }
 
+    pub fn byte(&mut self) -> u8 {
+        self.number() as u8
+    }
+
+    /// One of a list, which is not empty.
+    pub fn one_of<T: Copy>(&mut self, list: &[T]) -> T {
+        list[self.below(list.len())]
+    }
+
     pub fn bytes(&mut self, len: usize) -> Vec<u8> {
-        (0..len).map(|_| self.number() as u8).collect()
+        (0..len).map(|_| self.byte()).collect()
     }
 
     /// A copy with one byte changed; of no bytes, a copy.
@@ -67,7 +75,7 @@ impl Inputs {
                 }
                 _ => {
                     let at = self.below(copy.len() + 1);
-                    copy.insert(at, self.number() as u8);
+                    copy.insert(at, self.byte());
                 }
             }
         }

@@ -1,6 +1,7 @@
 //! Buffers that are lent to a call, and what a call leaves behind.
 
 use std::fmt;
+use std::ops::Deref;
 
 use gorvisclen::{Refused, Reply};
 
@@ -33,6 +34,11 @@ impl<T: Copy> Lent<T> {
     pub fn at(&self, i: usize) -> T {
         self.whole[MARGIN + i]
     }
+
+    /// How long the part is.
+    pub fn len(&self) -> usize {
+        self.whole.len() - 2 * MARGIN
+    }
 }
 
 /// Numbers to lend, none of which any operation writes.
@@ -50,9 +56,9 @@ pub fn bytes(len: usize) -> Lent<u8> {
 pub struct Outcome {
     pub reply: Reply,
     pub out: Lent<u64>,
-    pub to: Lent<u8>,
+    to: Lent<u8>,
     /// What was lent to be read.
-    pub read: Vec<u8>,
+    read: Vec<u8>,
 }
 
 impl Outcome {
@@ -67,8 +73,8 @@ impl Outcome {
     }
 
     /// With what else was lent, to be read: as it is now.
-    pub fn reading(mut self, read: &[&[u8]]) -> Self {
-        self.read = read.concat();
+    pub fn reading(mut self, read: Vec<u8>) -> Self {
+        self.read = read;
         self
     }
 
@@ -92,66 +98,60 @@ fn differ<T: PartialEq>(one: &[T], other: &[T]) -> Option<usize> {
     one.iter().zip(other).position(|(a, b)| a != b)
 }
 
-/// What a call leaves that writes to `out` only.
-pub fn left(mut out: Lent<u64>, call: impl FnOnce(&mut [u64]) -> Reply) -> Outcome {
-    let reply = call(out.part());
-    Outcome::new(reply, out, bytes(0))
-}
-
-/// What such a call has to leave: a refusal, or 16 where `out` is too short for the numbers, or the numbers.
-pub fn demanded<const N: usize>(numbers: Result<[u64; N], u8>, out: Lent<u64>) -> Outcome {
-    left(out, |out| {
-        let numbers = or_short(numbers, out.len() >= N)?;
-        out[..N].copy_from_slice(&numbers);
-        Ok(())
-    })
-}
-
-/// An answer that is refused with 16 too, where what was lent for it is too short: the smaller number wins.
-pub fn or_short<T>(answer: Result<T, u8>, long_enough: bool) -> Result<T, Refused> {
-    match answer {
-        Err(number) if number < 16 || long_enough => Err(Refused(number)),
-        Ok(answer) if long_enough => Ok(answer),
-        _ => Err(Refused(16)),
-    }
-}
-
-/// The bytes in hex, of many only their beginning and end; `-` for none.
-pub fn hex(bytes: &[u8]) -> String {
-    let digits = |bytes: &[u8]| -> String { bytes.iter().map(|b| format!("{b:02X}")).collect() };
-    let len = bytes.len();
-    match len {
-        0 => "-".to_string(),
-        _ if len <= SHOWN.0 + SHOWN.1 => digits(bytes),
-        _ => format!(
-            "{}..{} ({len} bytes)",
-            digits(&bytes[..SHOWN.0]),
-            digits(&bytes[len - SHOWN.1..])
-        ),
-    }
-}
-
 impl fmt::Display for Outcome {
     fn fmt(&self, f: &mut fmt::Formatter<'_>) -> fmt::Result {
         match self.reply {
             Ok(()) => write!(f, "done")?,
             Err(Refused(n)) => write!(f, "refused {n}")?,
         }
-        write!(f, "; out {:?}", self.out.whole)?;
-        write!(f, "; to {}; read {}", hex(&self.to.whole), hex(&self.read))
+        let [to, read] = [Hex(&self.to.whole), Hex(&self.read)];
+        write!(f, "; out {:?}; to {to:?}; read {read:?}", self.out.whole)
+    }
+}
+
+/// Bytes that are printed in hex, of many only their beginning and end; `-` for none. Or numbers in hex.
+#[derive(Clone, Copy)]
+pub struct Hex<'a, T>(pub &'a [T]);
+
+impl<T> Deref for Hex<'_, T> {
+    type Target = [T];
+    fn deref(&self) -> &[T] {
+        self.0
+    }
+}
+
+impl fmt::Debug for Hex<'_, u8> {
+    fn fmt(&self, f: &mut fmt::Formatter<'_>) -> fmt::Result {
+        let digits = |bytes: &[u8]| bytes.iter().map(|b| format!("{b:02X}")).collect::<String>();
+        let (bytes, len) = (self.0, self.len());
+        match len {
+            0 => write!(f, "-"),
+            _ if len <= SHOWN.0 + SHOWN.1 => write!(f, "{}", digits(bytes)),
+            _ => {
+                let [front, end] = [&bytes[..SHOWN.0], &bytes[len - SHOWN.1..]].map(digits);
+                write!(f, "{front}..{end} ({len} bytes)")
+            }
+        }
+    }
+}
+
+impl fmt::Debug for Hex<'_, u32> {
+    fn fmt(&self, f: &mut fmt::Formatter<'_>) -> fmt::Result {
+        write!(f, "{:X?}", self.0)
     }
 }
 
 /// Places from which `need` bytes do not fit a buffer that ends behind those from the place `before` on, some so large that a sum wraps.
 pub fn places_past(before: usize, need: usize) -> [usize; 7] {
     let exact = before + need;
+    let wrapping = (usize::MAX - need).wrapping_add(1);
     [
         exact,
         exact + 1,
         exact + 65_536,
         before + (1 << 32),
         usize::MAX,
-        (usize::MAX - need).wrapping_add(1),
-        (usize::MAX - need).wrapping_add(1 + before),
+        wrapping,
+        wrapping.wrapping_add(before),
     ]
 }

@@ -1,10 +1,14 @@
-//! Runs the proved library beside the original Rust. A mismatch is printed and makes the program fail.
+//! Runs the proved library beside the original Rust. Each concept has a file, in which each of its operations is described once.
 //!
 //!     compare [--cases N] [--seed S] [--threads T]
+//!     compare record FILE
+//!     compare time [--emulated]
 //!
-//! Without `--cases` it is the short run: all that is counted through, and a fixed number of random cases. With it, at least N
-//! random cases follow. A case is a call of one exported function, whose reply and lent memory are compared. Each job has random
-//! inputs of its own, by the seed and its number, so that the outcome does not depend on the number of threads.
+//! Without a word it compares: a mismatch is printed and makes the program fail. Without `--cases` it is the short run: all that is
+//! counted through, and a fixed number of random cases. With it, at least N random cases follow. A case is a call of one exported
+//! function, whose reply and lent memory are compared. Each job has random inputs of its own, by the seed and its number, so that the
+//! outcome does not depend on the number of threads. `record` writes answers of the Rust for the program replay; `time` times every
+//! operation beside the Rust's.
 //!
 //! Compiled once more by `counting`, it runs beside a copy of the Rust that counts its branches.
 
@@ -16,6 +20,7 @@ mod aid;
 #[cfg(feature = "counted")]
 mod branches;
 mod builder;
+mod call;
 mod class;
 mod command;
 mod inputs;
@@ -23,15 +28,19 @@ mod jobs;
 mod lent;
 mod panics;
 mod reassembler;
+mod record;
 mod splitter;
 mod tally;
+mod timing;
 mod tlv;
 
-use std::{env, process, thread};
+use std::{env, fs, process, thread};
 
 use crate::inputs::Inputs;
 use crate::jobs::{Asked, Job};
+use crate::record::File;
 use crate::tally::Tally;
+use crate::timing::Lines;
 
 /// The parts of the short run, those that take longest first.
 const WHOLE: [Job; 7] = [
@@ -57,20 +66,40 @@ const RANDOM: [(&str, Job); 9] = [
     ("pieces, joined", reassembler::random),
 ];
 
+/// What is recorded, in the order of the file.
+const RECORDED: [fn(&mut File, &mut Inputs); 6] = [
+    class::record,
+    aid::record,
+    tlv::record,
+    command::record,
+    builder::record,
+    splitter::record,
+];
+
+/// What is timed, in the order of the lines.
+const TIMED: [fn(&mut Lines); 7] = [
+    class::time,
+    aid::time,
+    command::time,
+    builder::time,
+    splitter::time,
+    reassembler::time,
+    tlv::time,
+];
+
 fn class_and_aid(tally: &mut Tally, inputs: &mut Inputs) {
     class::random(tally, inputs);
     aid::random(tally, inputs);
 }
 
-fn asked() -> Option<Asked> {
+fn asked(words: &[&str]) -> Option<Asked> {
     let mut asked = Asked {
         cases: 0,
         seed: 7816,
         threads: thread::available_parallelism().map_or(1, usize::from),
     };
-    let words: Vec<String> = env::args().skip(1).collect();
     for pair in words.chunks(2) {
-        match [pair[0].as_str(), pair.get(1)?] {
+        match *pair {
             ["--cases", n] => asked.cases = n.parse().ok()?,
             ["--seed", n] => asked.seed = n.parse().ok()?,
             ["--threads", n] => asked.threads = n.parse().ok().filter(|&n| n > 0)?,
@@ -80,19 +109,62 @@ fn asked() -> Option<Asked> {
     Some(asked)
 }
 
-fn main() {
-    let Some(asked) = asked() else {
-        eprintln!("usage: compare [--cases N] [--seed S] [--threads T], decimal numbers");
-        process::exit(2);
-    };
-    panics::quiet_where_asked();
+/// Compares, and says whether that failed.
+fn compare(asked: &Asked) -> bool {
     println!(
         "seed {}, random cases asked for {}",
         asked.seed, asked.cases
     );
-    let done = jobs::run(&asked, &WHOLE, &RANDOM);
+    let done = jobs::run(asked, &WHOLE, &RANDOM);
     let failed = done.print();
     #[cfg(feature = "counted")]
     let failed = branches::print(&done.branches, done.least()) || failed;
+    failed
+}
+
+fn record(path: &str) -> bool {
+    let (mut file, mut inputs) = (File::default(), Inputs::of(record::SEED));
+    for record in RECORDED {
+        record(&mut file, &mut inputs);
+    }
+    let bytes = file.bytes();
+    match fs::write(path, &bytes) {
+        Ok(()) => println!("{} bytes", bytes.len()),
+        Err(ref error) => eprintln!("{path}: {error}"),
+    }
+    fs::read(path).ok() != Some(bytes)
+}
+
+fn time(emulated: bool) -> bool {
+    timing::head();
+    let mut lines = Lines::default();
+    TIMED.iter().for_each(|time| time(&mut lines));
+    println!(
+        "{}",
+        match emulated {
+            true => "emulated: x86-64 code on another machine; the times say nothing, and the ratios little",
+            false => "not emulated",
+        }
+    );
+    lines.above() && !emulated
+}
+
+fn main() {
+    let words: Vec<String> = env::args().skip(1).collect();
+    let words: Vec<&str> = words.iter().map(String::as_str).collect();
+    panics::quiet_where_asked();
+    let failed = match words[..] {
+        ["record", file] => record(file),
+        ["time"] => time(false),
+        ["time", "--emulated"] => time(true),
+        ref words => match asked(words) {
+            Some(asked) => compare(&asked),
+            None => {
+                eprintln!("usage: compare [--cases N] [--seed S] [--threads T], decimal numbers");
+                eprintln!("       compare record FILE | compare time [--emulated]");
+                process::exit(2)
+            }
+        },
+    };
     process::exit(failed.into())
 }

@@ -3,14 +3,20 @@
 
 mod chains;
 mod edges;
+mod recorded;
 mod rust;
 mod steps;
+mod timed;
 
 use std::hint::black_box;
 
 use gorvisclen::{EXPECTED_MAX, SPLIT_NUMBERS};
 
+pub use self::recorded::record;
+use self::steps::Step;
+pub use self::timed::time;
 use crate::builder::Asked;
+use crate::call::{Call, Unread};
 use crate::inputs::Inputs;
 use crate::tally::Tally;
 
@@ -54,7 +60,7 @@ fn lengths() -> impl Iterator<Item = usize> {
 
 fn some_header(inputs: &mut Inputs) -> [u8; 4] {
     match inputs.below(3) {
-        0 => HEADERS[inputs.below(HEADERS.len())],
+        0 => inputs.one_of(&HEADERS),
         _ => (inputs.number() as u32).to_be_bytes(),
     }
 }
@@ -75,7 +81,17 @@ fn some_expected(inputs: &mut Inputs) -> u32 {
     match inputs.below(4) {
         0 => inputs.below(70_000) as u32,
         1 => inputs.below(600) as u32,
-        _ => EXPECTED[inputs.below(EXPECTED.len())],
+        _ => inputs.one_of(&EXPECTED),
+    }
+}
+
+impl Step<'_> {
+    /// Compares it, with its data where these are under a length.
+    fn under(self, tally: &mut Tally, most: usize, len: usize) {
+        match self.asked.data.len() < most {
+            true => self.compare_numbers(tally, len),
+            false => Unread(self).compare_numbers(tally, len),
+        }
     }
 }
 
@@ -88,13 +104,13 @@ fn every_boundary(tally: &mut Tally, inputs: &mut Inputs) {
             for le in EXPECTED {
                 for mode in 0..3 {
                     let asked = Asked::new(some_header(inputs), le, mode, &row[..n]);
-                    let len = SPLIT_NUMBERS + inputs.below(2);
-                    asked.step(tally, available, len, n < 300);
+                    let step = Step { asked, available };
+                    step.under(tally, 300, SPLIT_NUMBERS + inputs.below(2));
                     if inputs.below(8) == 0 {
-                        asked.step(tally, available, inputs.below(SPLIT_NUMBERS), false);
+                        step.under(tally, 0, inputs.below(SPLIT_NUMBERS));
                     }
                     if available > 12 && n <= 65_535 && (n < 300 || inputs.below(64) == 0) {
-                        asked.parts(tally, available);
+                        step.parts(tally);
                     }
                 }
             }
@@ -112,11 +128,11 @@ fn every_small_step(tally: &mut Tally, inputs: &mut Inputs) {
             for n in 0..=300 {
                 let asked = Asked::new(header, le, mode, &row[..n]);
                 for available in 10..=300 {
-                    asked.step(tally, available, SPLIT_NUMBERS, false);
+                    Step { asked, available }.under(tally, 0, SPLIT_NUMBERS);
                 }
                 for available in 0..10 {
-                    if n < 10 || n > 250 || inputs.below(10) == 0 {
-                        asked.step(tally, available, SPLIT_NUMBERS, false);
+                    if !(10..=250).contains(&n) || inputs.below(10) == 0 {
+                        Step { asked, available }.under(tally, 0, SPLIT_NUMBERS);
                     }
                 }
             }
@@ -124,7 +140,7 @@ fn every_small_step(tally: &mut Tally, inputs: &mut Inputs) {
         for le in [0, 256, EXPECTED_MAX] {
             let asked = Asked::new(HEADERS[1], le, mode, &row);
             for available in 0..=65_545 {
-                asked.step(tally, available, SPLIT_NUMBERS, false);
+                Step { asked, available }.under(tally, 0, SPLIT_NUMBERS);
             }
         }
     }
@@ -140,7 +156,7 @@ fn every_class_and_mode(tally: &mut Tally, inputs: &mut Inputs) {
                 let header = [byte, byte ^ 0x55, byte.wrapping_add(1), 0];
                 for mode in [0, 1, 2, byte] {
                     let asked = Asked::new(header, le, mode, &row[..n]);
-                    asked.step(tally, available, SPLIT_NUMBERS, true);
+                    Step { asked, available }.compare_numbers(tally, SPLIT_NUMBERS);
                 }
                 let asked = chains::Asked::new(header, &row[..n], le as u16, available);
                 asked.cut(tally, (1, 1), 5);
@@ -154,16 +170,17 @@ pub fn random_step(tally: &mut Tally, inputs: &mut Inputs) {
     let row = inputs.row();
     let n = some_len(inputs).min(row.len());
     let mode = match inputs.below(4) {
-        3 => inputs.number() as u8,
+        3 => inputs.byte(),
         mode => mode as u8,
     };
     let (header, le) = (some_header(inputs), some_expected(inputs));
     let start = inputs.below(row.len() - n + 1);
     let asked = Asked::new(header, le, mode, &row[start..start + n]);
-    let (available, len) = (some_len(inputs), inputs.below(SPLIT_NUMBERS + 2));
-    asked.step(tally, available, len, n < 700);
+    let available = some_len(inputs);
+    let step = Step { asked, available };
+    step.under(tally, 700, inputs.below(SPLIT_NUMBERS + 2));
     if available > 12 && n < 700 {
-        asked.parts(tally, available);
+        step.parts(tally);
     }
 }
 
@@ -260,7 +277,7 @@ fn random_piece(tally: &mut Tally, inputs: &mut Inputs) {
     let mut asked = chains::Asked::new(some_header(inputs), &row[..n], le, available);
     asked.chain.place = match inputs.below(8) {
         0 => n + inputs.below(3),
-        1 => [usize::MAX, 1 << 32, 65_536, 70_000][inputs.below(4)],
+        1 => inputs.one_of(&[usize::MAX, 1 << 32, 65_536, 70_000]),
         2..=3 => n.saturating_sub(inputs.below(300)),
         _ => inputs.below(n + 1),
     };

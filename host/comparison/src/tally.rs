@@ -6,6 +6,7 @@ use std::sync::atomic::{AtomicU64, Ordering};
 
 use gorvisclen::{Refused, Reply};
 
+use crate::call::Names;
 use crate::lent::Outcome;
 
 /// The program stops at this many mismatches, in all threads together.
@@ -54,13 +55,7 @@ impl Count {
 
 impl Tally {
     /// Counts cases of one reply, and where it is done, as many for each operation that `numbers` names.
-    pub fn count(
-        &mut self,
-        operation: &'static str,
-        numbers: &[&'static str],
-        reply: u8,
-        cases: u64,
-    ) {
+    pub fn count(&mut self, (operation, numbers): Names, reply: u8, cases: u64) {
         if cases == 0 {
             return;
         }
@@ -79,15 +74,14 @@ impl Tally {
     /// wrote count each for the operation that `numbers` names.
     pub fn compare(
         &mut self,
-        operation: &'static str,
-        numbers: &[&'static str],
+        (operation, numbers): Names,
         input: impl Fn() -> String,
         demanded: &Outcome,
         ours: &Outcome,
     ) {
         let both_done = demanded.reply.is_ok() && ours.reply.is_ok();
         let told = if both_done { numbers } else { &[] };
-        self.count(operation, told, number_of(demanded.reply), 1);
+        self.count((operation, told), number_of(demanded.reply), 1);
         if demanded == ours {
             return;
         }

@@ -7,30 +7,35 @@ mod front;
 mod lookup;
 mod model;
 mod names;
+mod recorded;
 mod records;
+mod timed;
 mod writing;
 
 use gorvisclen::{
     CRATE_READING, LEN_NUMBERS, LOOKUP_NUMBERS, OBJECT_NUMBERS, STANDARD_READING, TAG_NUMBERS,
 };
 
-use self::front::{LEN, OBJECT, TAG};
-use self::lookup::Lookup;
+use self::front::{Front, Len, Object, Tag};
+use self::lookup::{Find, Lookup, Value};
+pub use self::recorded::record;
 use self::records::{length_forms, long_record, some_paths, some_record, Record};
+pub use self::timed::time;
 pub use self::writing::random as random_writing;
+use crate::call::Call;
 use crate::inputs::Inputs;
 use crate::tally::Tally;
 
 /// What the front of some bytes is read as, with `out` long enough and too short.
 fn every_front(tally: &mut Tally, inputs: &mut Inputs, bytes: &[u8]) {
     for reading in [CRATE_READING, 1 + inputs.below(255) as u8] {
-        TAG.compare(tally, reading, bytes, TAG_NUMBERS + inputs.below(3));
-        LEN.compare(tally, reading, bytes, LEN_NUMBERS + inputs.below(3));
-        OBJECT.compare(tally, reading, bytes, OBJECT_NUMBERS + inputs.below(3));
+        Tag.compare(tally, reading, bytes, TAG_NUMBERS + inputs.below(3));
+        Len.compare(tally, reading, bytes, LEN_NUMBERS + inputs.below(3));
+        Object.compare(tally, reading, bytes, OBJECT_NUMBERS + inputs.below(3));
         match inputs.below(3) {
-            0 => TAG.compare(tally, reading, bytes, inputs.below(TAG_NUMBERS)),
-            1 => LEN.compare(tally, reading, bytes, inputs.below(LEN_NUMBERS)),
-            _ => OBJECT.compare(tally, reading, bytes, inputs.below(OBJECT_NUMBERS)),
+            0 => Tag.compare(tally, reading, bytes, inputs.below(TAG_NUMBERS)),
+            1 => Len.compare(tally, reading, bytes, inputs.below(LEN_NUMBERS)),
+            _ => Object.compare(tally, reading, bytes, inputs.below(OBJECT_NUMBERS)),
         }
     }
 }
@@ -38,18 +43,15 @@ fn every_front(tally: &mut Tally, inputs: &mut Inputs, bytes: &[u8]) {
 /// A lookup by place and by content, with `out` and `to` of lengths around those that it needs.
 fn every_lookup(tally: &mut Tally, inputs: &mut Inputs, record: &[u8], path: &[u32]) {
     for reading in [CRATE_READING, 1 + inputs.below(255) as u8] {
-        let lookup = Lookup {
-            reading,
-            record,
-            path,
-        };
-        lookup.find(tally, LOOKUP_NUMBERS + inputs.below(3));
+        let lookup = Lookup::of(reading, record, path);
+        let (find, value) = (Find(lookup), Value(lookup));
+        find.compare_numbers(tally, LOOKUP_NUMBERS + inputs.below(3));
         let n = lookup.len();
-        lookup.value(tally, n + inputs.below(3), 1 + inputs.below(2));
+        value.compare(tally, n + inputs.below(3), 1 + inputs.below(2));
         match inputs.below(3) {
-            0 => lookup.find(tally, inputs.below(LOOKUP_NUMBERS)),
-            1 => lookup.value(tally, n.saturating_sub(1), 1),
-            _ => lookup.value(tally, inputs.below(n + 1), inputs.below(2)),
+            0 => find.compare_numbers(tally, inputs.below(LOOKUP_NUMBERS)),
+            1 => value.compare(tally, n.saturating_sub(1), 1),
+            _ => value.compare(tally, inputs.below(n + 1), inputs.below(2)),
         }
     }
 }
@@ -58,9 +60,9 @@ fn every_lookup(tally: &mut Tally, inputs: &mut Inputs, record: &[u8], path: &[u
 fn every_short_string(tally: &mut Tally) {
     for len in 0..=3 {
         for reading in [CRATE_READING, STANDARD_READING] {
-            TAG.every_string(tally, reading, len);
-            LEN.every_string(tally, reading, len);
-            OBJECT.every_string(tally, reading, len);
+            Tag.every_string(tally, reading, len);
+            Len.every_string(tally, reading, len);
+            Object.every_string(tally, reading, len);
         }
     }
 }
@@ -76,7 +78,7 @@ fn every_length(tally: &mut Tally, inputs: &mut Inputs) {
                 every_front(tally, inputs, &row[..end]);
                 every_lookup(tally, inputs, &row[..end], &[0x5F24]);
             }
-            LEN.compare(tally, CRATE_READING, &form, LEN_NUMBERS);
+            Len.compare(tally, CRATE_READING, &form, LEN_NUMBERS);
         }
     }
 }
@@ -96,18 +98,14 @@ fn every_buffer(tally: &mut Tally) {
     for record in records {
         for reading in 0..=255 {
             for len in 0..=4 {
-                TAG.compare(tally, reading, record, len);
-                LEN.compare(tally, reading, record, len);
-                OBJECT.compare(tally, reading, record, len);
+                Tag.compare(tally, reading, record, len);
+                Len.compare(tally, reading, record, len);
+                Object.compare(tally, reading, record, len);
                 for path in paths {
-                    let lookup = Lookup {
-                        reading,
-                        record,
-                        path,
-                    };
-                    lookup.find(tally, len);
+                    let lookup = Lookup::of(reading, record, path);
+                    Find(lookup).compare_numbers(tally, len);
                     for to_len in 0..=lookup.len() + 1 {
-                        lookup.value(tally, to_len, len);
+                        Value(lookup).compare(tally, to_len, len);
                     }
                 }
             }
@@ -177,7 +175,7 @@ fn long(tally: &mut Tally, inputs: &mut Inputs) {
 
 /// A row of any bytes; every second one is small, a tag of one byte or a length that may fit.
 fn any_bytes(tally: &mut Tally, inputs: &mut Inputs) {
-    let most = [5, 12, 40][inputs.below(3)];
+    let most = inputs.one_of(&[5, 12, 40]);
     let n = inputs.below(most);
     let mut bytes = inputs.bytes(n);
     bytes.iter_mut().step_by(2).for_each(|byte| *byte %= 64);
@@ -190,7 +188,7 @@ fn cut_header(tally: &mut Tally, inputs: &mut Inputs) {
     let tags: [&[u8]; 4] = [&[], &[0x5A], &[0x5F, 0x24], &[0xDF, 0x81, 0x01]];
     let forms = length_forms(inputs.below(300));
     let form = &forms[inputs.below(forms.len())];
-    let header = [tags[inputs.below(tags.len())], form].concat();
+    let header = [inputs.one_of(&tags), form].concat();
     let at = inputs.below(header.len() + 1);
     every_front(tally, inputs, &header[..at]);
 }

@@ -1,6 +1,6 @@
 //! Commands read, and owned copies of them.
 
-use crate::{reply, Reply};
+use crate::{call, reply, Reply};
 
 /// How many numbers `command` writes.
 pub const COMMAND_NUMBERS: usize = 8;
@@ -8,74 +8,18 @@ pub const COMMAND_NUMBERS: usize = 8;
 /// How many numbers `command_owned` and `command_extend` write.
 pub const OWNED_NUMBERS: usize = 7;
 
-// A slice passes as its pointer and its length.
-extern "C" {
-    fn gorvisclen_command(
-        reading: u8,
-        apdu: *const u8,
-        apdu_len: usize,
-        out: *mut u64,
-        out_len: usize,
-    ) -> u8;
-    fn gorvisclen_command_data(
-        reading: u8,
-        apdu: *const u8,
-        apdu_len: usize,
-        to: *mut u8,
-        to_len: usize,
-        out: *mut u64,
-        out_len: usize,
-    ) -> u8;
-    fn gorvisclen_command_owned(
-        reading: u8,
-        apdu: *const u8,
-        apdu_len: usize,
-        room: *mut u8,
-        room_len: usize,
-        out: *mut u64,
-        out_len: usize,
-    ) -> u8;
-    fn gorvisclen_command_extend(
-        len: usize,
-        room: *mut u8,
-        room_len: usize,
-        apdu: *const u8,
-        apdu_len: usize,
-        out: *mut u64,
-        out_len: usize,
-    ) -> u8;
-}
-
 /// A command parsed, in 8 numbers: class byte; instruction byte; P1; P2; the place of its data in `apdu` (where there are
 /// none: 4, or 7 behind an extended Lc of zero); their length; the expected length; whether it is extended, 0 or 1.
 /// Refusals: 1, 3, 4, 5, 16, and 21 in the standard reading.
 #[inline]
 pub fn command(reading: u8, apdu: &[u8], out: &mut [u64]) -> Reply {
-    reply(unsafe {
-        gorvisclen_command(
-            reading,
-            apdu.as_ptr(),
-            apdu.len(),
-            out.as_mut_ptr(),
-            out.len(),
-        )
-    })
+    reply(call!(gorvisclen_command, u8 reading, bytes apdu, numbers out))
 }
 
 /// Copies the data of a command to the front of `to`. Writes one number: their length. Refusals: those of the command, 16.
 #[inline]
 pub fn command_data(reading: u8, apdu: &[u8], to: &mut [u8], out: &mut [u64]) -> Reply {
-    reply(unsafe {
-        gorvisclen_command_data(
-            reading,
-            apdu.as_ptr(),
-            apdu.len(),
-            to.as_mut_ptr(),
-            to.len(),
-            out.as_mut_ptr(),
-            out.len(),
-        )
-    })
+    reply(call!(gorvisclen_command_data, u8 reading, bytes apdu, room to, numbers out))
 }
 
 /// An owned copy of a command: its data stand at the beginning of `room`, the rest in 7 numbers: class byte; instruction
@@ -83,17 +27,7 @@ pub fn command_data(reading: u8, apdu: &[u8], to: &mut [u8], out: &mut [u64]) ->
 /// Refusals: 1, 3, 4, 5, 2, 16, and 21 in the standard reading.
 #[inline]
 pub fn command_owned(reading: u8, apdu: &[u8], room: &mut [u8], out: &mut [u64]) -> Reply {
-    reply(unsafe {
-        gorvisclen_command_owned(
-            reading,
-            apdu.as_ptr(),
-            apdu.len(),
-            room.as_mut_ptr(),
-            room.len(),
-            out.as_mut_ptr(),
-            out.len(),
-        )
-    })
+    reply(call!(gorvisclen_command_owned, u8 reading, bytes apdu, room room, numbers out))
 }
 
 /// Extends an owned command, which holds `len` bytes of data at the beginning of `room`, by the command `apdu`, which is
@@ -105,15 +39,5 @@ pub fn command_owned(reading: u8, apdu: &[u8], room: &mut [u8], out: &mut [u64])
 /// `len` and `room` is as it was. It is given exactly where the held and the new length exceed that of `room`, for every `len`.
 #[inline]
 pub fn command_extend(len: usize, room: &mut [u8], apdu: &[u8], out: &mut [u64]) -> Reply {
-    reply(unsafe {
-        gorvisclen_command_extend(
-            len,
-            room.as_mut_ptr(),
-            room.len(),
-            apdu.as_ptr(),
-            apdu.len(),
-            out.as_mut_ptr(),
-            out.len(),
-        )
-    })
+    reply(call!(gorvisclen_command_extend, usize len, room room, bytes apdu, numbers out))
 }

@@ -63,8 +63,42 @@ pub const CRATE_READING: u8 = 0;
 /// The reading of them that the standard has; every other number but 0 names it too.
 pub const STANDARD_READING: u8 = 1;
 
-// Each module declares functions of the archives and calls them: the pointers and lengths are those of slices that are borrowed for the
-// call, which keeps none of them.
+/// What an exported function replies, called by its name with arguments of these kinds: a number of a type; a `header` or a `tag` as
+/// its bytes; `bytes` and `tags` to read, `room` and `numbers` to write, each as its pointer and its length.
+macro_rules! call {
+    ($name:ident $(, $kind:ident $arg:expr)*) => {
+        crate::call!(@ $name [] [] $($kind $arg,)*)
+    };
+    (@ $name:ident [$($type:ty,)*] [$($value:expr,)*]) => {{
+        extern "C" {
+            fn $name($(_: $type),*) -> u8;
+        }
+        // The pointers and lengths are those of slices that are borrowed for the call, which keeps none of them.
+        unsafe { $name($($value),*) }
+    }};
+    (@ $name:ident [$($t:tt)*] [$($v:tt)*] header $arg:expr, $($more:tt)*) => {
+        crate::call!(@ $name [$($t)* u8, u8, u8, u8,] [$($v)* $arg[0], $arg[1], $arg[2], $arg[3],] $($more)*)
+    };
+    (@ $name:ident [$($t:tt)*] [$($v:tt)*] tag $arg:expr, $($more:tt)*) => {
+        crate::call!(@ $name [$($t)* u8, u8, u8,] [$($v)* $arg[0], $arg[1], $arg[2],] $($more)*)
+    };
+    (@ $name:ident [$($t:tt)*] [$($v:tt)*] bytes $arg:expr, $($more:tt)*) => {
+        crate::call!(@ $name [$($t)* *const u8, usize,] [$($v)* $arg.as_ptr(), $arg.len(),] $($more)*)
+    };
+    (@ $name:ident [$($t:tt)*] [$($v:tt)*] tags $arg:expr, $($more:tt)*) => {
+        crate::call!(@ $name [$($t)* *const u32, usize,] [$($v)* $arg.as_ptr(), $arg.len(),] $($more)*)
+    };
+    (@ $name:ident [$($t:tt)*] [$($v:tt)*] room $arg:expr, $($more:tt)*) => {
+        crate::call!(@ $name [$($t)* *mut u8, usize,] [$($v)* $arg.as_mut_ptr(), $arg.len(),] $($more)*)
+    };
+    (@ $name:ident [$($t:tt)*] [$($v:tt)*] numbers $arg:expr, $($more:tt)*) => {
+        crate::call!(@ $name [$($t)* *mut u64, usize,] [$($v)* $arg.as_mut_ptr(), $arg.len(),] $($more)*)
+    };
+    (@ $name:ident [$($t:tt)*] [$($v:tt)*] $type:ident $arg:expr, $($more:tt)*) => {
+        crate::call!(@ $name [$($t)* $type,] [$($v)* $arg,] $($more)*)
+    };
+}
+use call;
 
 #[inline]
 fn reply(number: u8) -> Reply {

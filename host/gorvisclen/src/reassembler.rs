@@ -1,47 +1,12 @@
 //! Pieces of chained commands joined in a lent room. The record of a chain passes as numbers, which the caller keeps.
 
-use crate::{reply, Reply};
+use crate::{call, reply, Reply};
 
 /// How many numbers `Reassembler::join` writes.
 pub const JOIN_NUMBERS: usize = 14;
 
 /// How many numbers a record is, as `Reassembler::join` writes it behind the answer.
 pub const STATE_NUMBERS: usize = 6;
-
-// A slice passes as its pointer and its length.
-extern "C" {
-    fn gorvisclen_join(
-        opened: u8,
-        class: u8,
-        instruction: u8,
-        p1: u8,
-        p2: u8,
-        held: usize,
-        piece: *const u8,
-        piece_len: usize,
-        room: *mut u8,
-        room_len: usize,
-        out: *mut u64,
-        out_len: usize,
-    ) -> u8;
-    fn gorvisclen_reset(
-        opened: u8,
-        class: u8,
-        instruction: u8,
-        p1: u8,
-        p2: u8,
-        held: usize,
-    ) -> u8;
-    fn gorvisclen_joined_data(
-        len: usize,
-        room: *const u8,
-        room_len: usize,
-        to: *mut u8,
-        to_len: usize,
-        out: *mut u64,
-        out_len: usize,
-    ) -> u8;
-}
 
 /// A record: `opened` 0 where no chain is open, and then the others say nothing; any other number for an open chain, with the
 /// header of its pieces, whose bit 0x10 says nothing, and how many bytes of the room are held.
@@ -76,31 +41,15 @@ impl Reassembler {
     /// Refusals: those of the piece, 1, 3, 4, 5; 3 where a chain is open with class byte 0xFF; 16; 17; 18.
     #[inline]
     pub fn join(self, piece: &[u8], room: &mut [u8], out: &mut [u64]) -> Reply {
-        let [class, instruction, p1, p2] = self.header;
-        reply(unsafe {
-            gorvisclen_join(
-                self.opened,
-                class,
-                instruction,
-                p1,
-                p2,
-                self.held,
-                piece.as_ptr(),
-                piece.len(),
-                room.as_mut_ptr(),
-                room.len(),
-                out.as_mut_ptr(),
-                out.len(),
-            )
-        })
+        reply(call!(
+            gorvisclen_join, u8 self.opened, header self.header, usize self.held, bytes piece, room room, numbers out
+        ))
     }
 
     /// Forgets an open chain: the record after it, which is closed. It always succeeds.
     #[inline]
     pub fn reset(self) -> Reassembler {
-        let [class, instruction, p1, p2] = self.header;
-        let opened =
-            unsafe { gorvisclen_reset(self.opened, class, instruction, p1, p2, self.held) };
+        let opened = call!(gorvisclen_reset, u8 self.opened, header self.header, usize self.held);
         Reassembler {
             opened,
             ..Reassembler::CLOSED
@@ -112,15 +61,5 @@ impl Reassembler {
 /// one number: how many they are. Refusal: 16.
 #[inline]
 pub fn joined_data(len: usize, room: &[u8], to: &mut [u8], out: &mut [u64]) -> Reply {
-    reply(unsafe {
-        gorvisclen_joined_data(
-            len,
-            room.as_ptr(),
-            room.len(),
-            to.as_mut_ptr(),
-            to.len(),
-            out.as_mut_ptr(),
-            out.len(),
-        )
-    })
+    reply(call!(gorvisclen_joined_data, usize len, bytes room, room to, numbers out))
 }

@@ -1,6 +1,6 @@
 //! Commands cut.
 
-use crate::{reply, Refused, Reply};
+use crate::{call, reply, Refused, Reply};
 
 /// How many numbers `should_split` writes.
 pub const SPLIT_NUMBERS: usize = 6;
@@ -10,50 +10,6 @@ pub const PIECE_NUMBERS: usize = 5;
 
 /// The buffer of a chain by default: four header bytes, Lc, 255 data bytes, Le.
 pub const BUFFER_LEN: usize = 261;
-
-// A slice passes as its pointer and its length.
-extern "C" {
-    fn gorvisclen_should_split(
-        class: u8,
-        instruction: u8,
-        p1: u8,
-        p2: u8,
-        le: u32,
-        mode: u8,
-        data: *const u8,
-        data_len: usize,
-        available: usize,
-        out: *mut u64,
-        out_len: usize,
-    ) -> u8;
-    fn gorvisclen_new_non_extended(
-        class: u8,
-        instruction: u8,
-        p1: u8,
-        p2: u8,
-        data: *const u8,
-        data_len: usize,
-        le: u16,
-        available: usize,
-    ) -> u8;
-    fn gorvisclen_write_next(
-        class: u8,
-        instruction: u8,
-        p1: u8,
-        p2: u8,
-        le: u16,
-        available: usize,
-        place: usize,
-        done: u8,
-        data: *const u8,
-        data_len: usize,
-        buffer: *mut u8,
-        buffer_len: usize,
-        at: usize,
-        out: *mut u64,
-        out_len: usize,
-    ) -> u8;
-}
 
 /// Whether a command to build fits a buffer of `available` bytes, in 6 numbers: 1 where it is split, then how many data bytes the
 /// first part takes, class byte and expected length of the first part (65,536 for Max), and those of the rest; instruction byte, P1,
@@ -68,22 +24,9 @@ pub fn should_split(
     available: usize,
     out: &mut [u64],
 ) -> Reply {
-    let [class, instruction, p1, p2] = header;
-    reply(unsafe {
-        gorvisclen_should_split(
-            class,
-            instruction,
-            p1,
-            p2,
-            le,
-            mode,
-            data.as_ptr(),
-            data.len(),
-            available,
-            out.as_mut_ptr(),
-            out.len(),
-        )
-    })
+    reply(
+        call!(gorvisclen_should_split, header header, u32 le, u8 mode, bytes data, usize available, numbers out),
+    )
 }
 
 /// A chain of pieces in the mode `SHORT_ONLY`, by numbers: the command's header, what it expects, the most bytes of a piece, the
@@ -106,19 +49,9 @@ impl Pieces {
         le: u16,
         available: usize,
     ) -> Result<Pieces, Refused> {
-        let [class, instruction, p1, p2] = header;
-        reply(unsafe {
-            gorvisclen_new_non_extended(
-                class,
-                instruction,
-                p1,
-                p2,
-                data.as_ptr(),
-                data.len(),
-                le,
-                available,
-            )
-        })?;
+        let made =
+            call!(gorvisclen_new_non_extended, header header, bytes data, u16 le, usize available);
+        reply(made)?;
         Ok(Pieces {
             header,
             le,
@@ -134,26 +67,11 @@ impl Pieces {
     /// Refusals, unless it is done: those of `new_non_extended`; 16 where the piece does not fit, for every `at`.
     #[inline]
     pub fn write_next(self, data: &[u8], buffer: &mut [u8], at: usize, out: &mut [u64]) -> Reply {
-        let [class, instruction, p1, p2] = self.header;
-        reply(unsafe {
-            gorvisclen_write_next(
-                class,
-                instruction,
-                p1,
-                p2,
-                self.le,
-                self.available,
-                self.place,
-                self.done.into(),
-                data.as_ptr(),
-                data.len(),
-                buffer.as_mut_ptr(),
-                buffer.len(),
-                at,
-                out.as_mut_ptr(),
-                out.len(),
-            )
-        })
+        let done = u8::from(self.done);
+        reply(call!(
+            gorvisclen_write_next, header self.header, u16 self.le, usize self.available, usize self.place, u8 done, bytes data,
+            room buffer, usize at, numbers out
+        ))
     }
 
     /// The chain behind a piece, by the numbers that `write_next` wrote.

@@ -2,8 +2,14 @@
 
 use gorvisclen::{EXPECTED_MAX, EXTENDED_FORCED, EXTENDED_SUPPORTED, SHORT_ONLY};
 
-use super::operations::Asked;
+use super::asked::Asked;
+use super::operations::{Equals, Write};
+use crate::call::{Call, Left};
+use crate::lent::Hex;
 use crate::tally::Tally;
+
+const WRITTEN: &str = "CommandBuilder::serialize_into, case by case (held to document 01)";
+const COMPARED: &str = "CommandBuilder == CommandView, case by case (held to document 01)";
 
 const HEADER: [u8; 4] = [0x00, 0xCA, 0x5F, 0x24];
 
@@ -74,8 +80,11 @@ pub fn written(tally: &mut Tally) {
     ];
     for (mode, rows) in modes {
         for &(n, expected, lc, le) in rows {
+            let (at, command) = (2, [&HEADER, lc, &data[..n], le].concat());
+            let len = command.len();
+            let answer = Ok(Left::written([len as u64], at, command));
             let asked = Asked::new(HEADER, expected, mode, &data[..n]);
-            asked.writes_by_paper(tally, lc, le);
+            Write { asked, at }.written(tally, WRITTEN, &answer, len + 4);
         }
     }
 }
@@ -92,13 +101,16 @@ pub fn compared(tally: &mut Tally) {
             (EXPECTED_MAX, [0, 0], false),
             (EXPECTED_MAX, [1, 0], false),
         ];
+        let mut held = |le, data, apdu: Vec<u8>, equal: bool| {
+            let (asked, apdu) = (Asked::new(HEADER, le, mode, data), Hex(&apdu));
+            let answer = Ok([equal.into()].into());
+            Equals { asked, apdu }.written(tally, COMPARED, &answer, 0);
+        };
         for (le, read, equal) in rows {
-            let asked = |data| Asked::new(HEADER, le, mode, data);
-            let apdu = [&HEADER, &[0][..], &read].concat();
-            asked(&[]).equals_by_paper(tally, &apdu, equal);
+            held(le, &[], [&HEADER, &[0][..], &read].concat(), equal);
             let apdu = [&HEADER, &[0, 0, 1, 0xAA][..], &read].concat();
-            asked(&[0xAA]).equals_by_paper(tally, &apdu, equal);
-            asked(&[0xAB]).equals_by_paper(tally, &apdu, false);
+            held(le, &[0xAA], apdu.clone(), equal);
+            held(le, &[0xAB], apdu, false);
         }
     }
 }

@@ -1,6 +1,6 @@
 //! The fields of which commands to build are made: all those around a boundary, and random ones.
 
-use gorvisclen::{EXPECTED_MAX, EXTENDED_FORCED, EXTENDED_SUPPORTED, SHORT_ONLY};
+use gorvisclen::{EXTENDED_FORCED, EXTENDED_SUPPORTED, SHORT_ONLY};
 
 use crate::inputs::Inputs;
 
@@ -21,13 +21,13 @@ pub const EXPECTED: [u32; 20] = [
     65_280,
     65_534,
     65_535,
-    EXPECTED_MAX,
+    65_536,
     65_537,
     65_791,
     65_792,
     131_071,
-    1 << 24,
-    u32::MAX,
+    16_777_216,
+    4_294_967_295,
 ];
 
 /// Lengths of data around each boundary.
@@ -63,14 +63,14 @@ pub const REFUSED: [&[u8]; 9] = [
 pub fn some_header(inputs: &mut Inputs) -> [u8; 4] {
     let any = (inputs.number() as u32).to_be_bytes();
     match inputs.below(3) {
-        0 => HEADERS[inputs.below(HEADERS.len())],
+        0 => inputs.one_of(&HEADERS),
         _ => any,
     }
 }
 
 pub fn some_mode(inputs: &mut Inputs) -> u8 {
     match inputs.below(4) {
-        3 => inputs.number() as u8,
+        3 => inputs.byte(),
         mode => mode as u8,
     }
 }
@@ -79,6 +79,6 @@ pub fn some_expected(inputs: &mut Inputs) -> u32 {
     match inputs.below(4) {
         0 => inputs.below(70_000) as u32,
         1 => inputs.below(600) as u32,
-        _ => EXPECTED[inputs.below(EXPECTED.len())],
+        _ => inputs.one_of(&EXPECTED),
     }
 }

@@ -1,283 +1,268 @@
-//! The operations on a builder, each run on both sides and compared.
+//! The operations on a builder.
 
-use gorvisclen::{Refused, Reply, COMMAND_NUMBERS, CRATE_READING, SHORT_ONLY, STANDARD_READING};
+use gorvisclen::{Reply, COMMAND_NUMBERS, CRATE_READING, SHORT_ONLY, STANDARD_READING};
+use opened::command::CommandView;
 
+use super::asked::Asked;
 use super::model;
-use super::rust::{made, Builder};
+use crate::call::{Answer, Call, Left, Names};
 use crate::command::by_rust;
-use crate::lent::{bytes, demanded, hex, left, numbers, Outcome};
+use crate::lent::{bytes, numbers, Hex, Outcome};
+use crate::panics::unless_it_panics;
 use crate::tally::Tally;
 
 /// The names of an operation: where the Rust builds too, where it does not from outside, and where it panics.
-struct Names {
-    outside: &'static str,
-    inside: &'static str,
-    too_long: &'static str,
-}
-
 macro_rules! names {
     ($operation:literal) => {
-        Names {
-            outside: $operation,
-            inside: concat!(
+        [
+            $operation,
+            concat!(
                 $operation,
                 ", short only with over 255 bytes or Max (held to a model of document 01)"
             ),
-            too_long: concat!($operation, ", data above 65,535 bytes (the Rust panics)"),
-        }
+            concat!($operation, ", data above 65,535 bytes (the Rust panics)"),
+        ]
     };
 }
-
-const LENGTH: Names = names!("CommandBuilder::required_len");
-const FORCE: Names = names!("CommandBuilder::force_extended");
-const EQUAL: Names = names!("CommandBuilder == CommandView");
-const WRITE: Names = names!("CommandBuilder::serialize_into");
 
 const PAST: &str =
     "CommandBuilder::serialize_into, a place past the buffer's end (no Rust: held to a rule, 16)";
 const READ_BACK: &str =
     "CommandBuilder::serialize_into, then both readings (held to a rule: header, data and lowered Le come back)";
-const WRITTEN: &str = "CommandBuilder::serialize_into, case by case (held to document 01)";
-const COMPARED: &str = "CommandBuilder == CommandView, case by case (held to document 01)";
 
-/// One command to build.
-#[derive(Clone, Copy)]
-pub struct Asked<'a> {
-    pub header: [u8; 4],
-    pub le: u32,
-    pub mode: u8,
-    pub data: &'a [u8],
-}
-
-impl<'a> Asked<'a> {
-    pub fn new(header: [u8; 4], le: u32, mode: u8, data: &'a [u8]) -> Self {
-        Asked {
-            header,
-            le,
-            mode,
-            data,
+impl Asked<'_> {
+    fn name(&self, [outside, inside, too_long]: [&'static str; 3]) -> &'static str {
+        match self.data.len() {
+            0..=65_535 if self.is_inside() => inside,
+            0..=65_535 => outside,
+            _ => too_long,
         }
-    }
-
-    /// Whether only code inside of the Rust makes such a builder.
-    pub fn is_inside(&self) -> bool {
-        let n = self.data.len();
-        self.mode == SHORT_ONLY && n <= 65_535 && (n > 255 || self.le > 65_535)
-    }
-
-    fn name(&self, names: &Names) -> &'static str {
-        if self.data.len() > 65_535 {
-            names.too_long
-        } else if self.is_inside() {
-            names.inside
-        } else {
-            names.outside
-        }
-    }
-
-    pub fn shown(&self) -> String {
-        format!(
-            "header {}, le {}, mode {}, data {}",
-            hex(&self.header),
-            self.le,
-            self.mode,
-            hex(self.data)
-        )
     }
 
     /// Ends the program where the model does not say what the Rust says.
     fn same<T: PartialEq>(&self, rust: T, model: T) -> T {
-        assert!(rust == model, "the model is not the Rust: {}", self.shown());
+        assert!(rust == model, "the model is not the Rust: {self:?}");
         rust
     }
+}
 
-    /// The length that the command takes in a mode.
-    pub fn len_in(&self, mode: u8) -> usize {
-        model::required_len(self.data.len(), self.le, mode)
+/// The length of a command.
+#[derive(Debug)]
+pub struct Length<'a>(pub Asked<'a>);
+
+impl Call<1> for Length<'_> {
+    fn names(&self, _: usize, _: &Answer<1>) -> Names {
+        (self.0.name(names!("CommandBuilder::required_len")), &[])
     }
 
-    /// Compares a call that tells one number, with `out` of `len` numbers. `read` is what it is lent to read.
-    fn number(
-        &self,
-        tally: &mut Tally,
-        operation: &'static str,
-        answer: Result<u64, u8>,
-        (read, len): (&[&[u8]], usize),
-        call: impl FnOnce(&mut [u64]) -> Reply,
-    ) {
-        let theirs = demanded(answer.map(|n| [n]), numbers(len)).reading(read);
-        let ours = left(numbers(len), call).reading(read);
-        let apdu = || match read {
-            [_, apdu] => format!(", command {}", hex(apdu)),
-            _ => String::new(),
+    fn read(&self) -> Vec<u8> {
+        self.0.data.to_vec()
+    }
+
+    fn ours(&self, _: &mut [u8], out: &mut [u64]) -> Reply {
+        let Asked {
+            header,
+            le,
+            mode,
+            data,
+        } = self.0;
+        gorvisclen::required_len(header, le, mode, data, out)
+    }
+
+    fn rust(&self, _: usize) -> Answer<'_, 1> {
+        Ok([self.0.made()?.required_len() as u64].into())
+    }
+
+    fn theirs(&self, _: usize) -> Answer<'_, 1> {
+        let len = self.0.made()?.required_len();
+        Ok([self.0.same(len, self.0.len_in(self.0.mode)) as u64].into())
+    }
+}
+
+/// The length of a command once extended length is forced.
+#[derive(Debug)]
+pub struct Force<'a>(pub Asked<'a>);
+
+impl Call<1> for Force<'_> {
+    fn names(&self, _: usize, _: &Answer<1>) -> Names {
+        (self.0.name(names!("CommandBuilder::force_extended")), &[])
+    }
+
+    fn read(&self) -> Vec<u8> {
+        self.0.data.to_vec()
+    }
+
+    fn ours(&self, _: &mut [u8], out: &mut [u64]) -> Reply {
+        let Asked {
+            header,
+            le,
+            mode,
+            data,
+        } = self.0;
+        gorvisclen::force_extended(header, le, mode, data, out)
+    }
+
+    fn rust(&self, _: usize) -> Answer<'_, 1> {
+        let builder = self.0.made()?;
+        let forced = match self.0.mode {
+            SHORT_ONLY => unless_it_panics(|| builder.force_extended()).ok_or(15)?,
+            _ => builder.force_extended(),
         };
-        let input = || format!("{}{}, out of {len} numbers", self.shown(), apdu());
-        tally.compare(operation, &[], input, &theirs, &ours);
+        Ok([forced.required_len() as u64].into())
     }
 
-    /// Compares the length; the data are compared too where `whole` is.
-    pub fn required_len(&self, tally: &mut Tally, len: usize, whole: bool) {
-        let answer = made(self).map(|builder| {
-            let len = self.same(builder.required_len(), self.len_in(self.mode));
-            len as u64
-        });
-        let read: &[&[u8]] = if whole { &[self.data] } else { &[] };
-        self.number(tally, self.name(&LENGTH), answer, (read, len), |out| {
-            gorvisclen::required_len(self.header, self.le, self.mode, self.data, out)
-        });
+    fn theirs(&self, to_len: usize) -> Answer<'_, 1> {
+        let answer = self.rust(to_len)?;
+        self.0.same(answer.numbers[0], self.0.len_in(2) as u64);
+        Ok(answer)
+    }
+}
+
+/// Whether a command to build equals one that is read.
+#[derive(Debug)]
+pub struct Equals<'a> {
+    pub asked: Asked<'a>,
+    pub apdu: Hex<'a, u8>,
+}
+
+impl Equals<'_> {
+    /// By the model, for a command that the Rust reads.
+    fn model(&self) -> Result<bool, u8> {
+        let parsed = by_rust(&self.apdu)?;
+        let [cla, ins, p1, p2, _, _, ne, _] = parsed.numbers;
+        Ok(self.asked.header.map(u64::from) == [cla, ins, p1, p2]
+            && self.asked.data == parsed.data
+            && u64::from(model::compared(self.asked.le)) == ne)
+    }
+}
+
+impl Call<1> for Equals<'_> {
+    fn names(&self, _: usize, _: &Answer<1>) -> Names {
+        (
+            self.asked.name(names!("CommandBuilder == CommandView")),
+            &[],
+        )
     }
 
-    /// Compares the length once extended length is forced.
-    pub fn force_extended(&self, tally: &mut Tally, len: usize, whole: bool) {
-        let answer = made(self).and_then(|builder| {
-            let model = match self.mode {
-                SHORT_ONLY => Err(15),
-                _ => Ok(self.len_in(2)),
-            };
-            let len = self.same(builder.forced_len(), model)?;
-            Ok(len as u64)
-        });
-        let read: &[&[u8]] = if whole { &[self.data] } else { &[] };
-        self.number(tally, self.name(&FORCE), answer, (read, len), |out| {
-            gorvisclen::force_extended(self.header, self.le, self.mode, self.data, out)
-        });
+    fn read(&self) -> Vec<u8> {
+        [self.asked.data, &self.apdu].concat()
     }
 
-    fn call_equals(&self, apdu: &[u8], out: &mut [u64]) -> Reply {
-        gorvisclen::builder_eq(self.header, self.le, self.mode, self.data, apdu, out)
+    fn ours(&self, _: &mut [u8], out: &mut [u64]) -> Reply {
+        let Asked {
+            header,
+            le,
+            mode,
+            data,
+        } = self.asked;
+        gorvisclen::builder_eq(header, le, mode, data, &self.apdu, out)
     }
 
-    /// Compares whether it equals a command.
-    pub fn equals(&self, tally: &mut Tally, apdu: &[u8], len: usize) {
-        let answer = match (made(self), by_rust(apdu)) {
-            (Ok(builder), Ok(parsed)) => {
-                let [cla, ins, p1, p2, _, _, ne, _] = parsed.numbers;
-                let model = self.header.map(u64::from) == [cla, ins, p1, p2]
-                    && self.data == parsed.data
-                    && u64::from(model::compared(self.le)) == ne;
-                Ok(self.same(builder.equals(apdu), model).into())
-            }
-            (Ok(_), Err(number)) | (Err(number), Ok(_)) => Err(number),
-            (Err(one), Err(other)) => Err(one.min(other)),
+    fn rust(&self, _: usize) -> Answer<'_, 1> {
+        let builder = self.asked.made()?;
+        let view = CommandView::try_from(self.apdu.0).map_err(|_| 5)?;
+        Ok([(builder == view).into()].into())
+    }
+
+    fn theirs(&self, _: usize) -> Answer<'_, 1> {
+        let (builder, model) = match (self.asked.made(), self.model()) {
+            (Ok(builder), Ok(model)) => (builder, model),
+            (Err(one), Err(other)) => return Err(one.min(other)),
+            (Err(number), _) | (_, Err(number)) => return Err(number),
         };
-        let read = (&[self.data, apdu][..], len);
-        self.number(tally, self.name(&EQUAL), answer, read, |out| {
-            self.call_equals(apdu, out)
-        });
+        let view = CommandView::try_from(self.apdu.0).unwrap();
+        let equal = self
+            .asked
+            .same([builder == view, view == builder], [model; 2]);
+        Ok([equal[0].into()].into())
+    }
+}
+
+/// A command written into a buffer from a place.
+#[derive(Debug)]
+pub struct Write<'a> {
+    pub asked: Asked<'a>,
+    pub at: usize,
+}
+
+impl Call<1> for Write<'_> {
+    fn names(&self, to_len: usize, _: &Answer<1>) -> Names {
+        let name = match self.asked.data.len() {
+            0..=65_535 if self.at > to_len => PAST,
+            _ => self.asked.name(names!("CommandBuilder::serialize_into")),
+        };
+        (name, &[])
     }
 
-    /// Holds that to an answer that is written down, and compares it.
-    pub fn equals_by_paper(&self, tally: &mut Tally, apdu: &[u8], equal: bool) {
-        let read = (&[self.data, apdu][..], 1);
-        self.number(tally, COMPARED, Ok(equal.into()), read, |out| {
-            self.call_equals(apdu, out)
-        });
-        self.equals(tally, apdu, 1);
+    fn read(&self) -> Vec<u8> {
+        self.asked.data.to_vec()
     }
 
-    /// Writes as the Rust does to what `buffer` has from the place on, and says how many bytes; a refusal writes nothing here.
-    fn write_by_rust(
-        &self,
-        builder: &dyn Builder,
-        buffer: &mut [u8],
-        at: usize,
-    ) -> Result<u64, u8> {
-        let part = buffer.get_mut(at..).ok_or(16)?;
-        let mut copy = part.to_vec();
-        let mut rest = &mut copy[..];
-        if !builder.write(&mut rest) {
-            return Err(16);
-        }
-        let n = part.len() - rest.len();
+    fn ours(&self, to: &mut [u8], out: &mut [u64]) -> Reply {
+        let Asked {
+            header,
+            le,
+            mode,
+            data,
+        } = self.asked;
+        gorvisclen::serialize_into(header, le, mode, data, to, self.at, out)
+    }
+
+    /// The Rust writes to as much as there is behind the place.
+    fn rust(&self, to_len: usize) -> Answer<'_, 1> {
+        let Asked {
+            header,
+            le,
+            mode,
+            data,
+        } = self.asked;
+        let builder = self.asked.made()?;
+        let mut written = vec![0; to_len.checked_sub(self.at).ok_or(16)?];
+        let mut rest = &mut written[..];
+        builder.serialize_into(&mut rest).map_err(|_| 16)?;
+        let n = to_len - self.at - rest.len();
         assert_eq!(n, builder.required_len());
-        let model = model::command(self.header, self.le, self.mode, self.data);
-        self.same(&copy[..n], &model);
-        part.copy_from_slice(&copy);
-        Ok(n as u64)
+        written.truncate(n);
+        self.asked
+            .same(&written, &model::command(header, le, mode, data));
+        Ok(Left::written([n as u64], self.at, written))
     }
+}
 
-    /// Compares a writing into a buffer from a place.
-    fn writing(
-        &self,
-        tally: &mut Tally,
-        operation: &'static str,
-        (buffer_len, at, len): (usize, usize, usize),
-        demanded: impl FnOnce(&mut [u8]) -> Result<u64, u8>,
-    ) {
-        let (mut buffer, mut out) = (bytes(buffer_len), numbers(len));
-        let reply = demanded(buffer.part()).map(|n| out.part()[0] = n);
-        let theirs = Outcome::new(reply.map_err(Refused), out, buffer).reading(&[self.data]);
+/// Holds what is written from a place to be read again, in both readings.
+pub fn read_back(tally: &mut Tally, asked: Asked, at: usize) {
+    let Asked {
+        header,
+        le,
+        mode,
+        data,
+    } = asked;
+    let mut buffer = vec![0xEE; at + asked.len_in(mode) + 3];
+    let mut written = [0];
+    // A refusal leaves nothing to read, which is then seen.
+    let _ = gorvisclen::serialize_into(header, le, mode, data, &mut buffer, at, &mut written);
+    let apdu = buffer[at..].get(..written[0] as usize).unwrap_or(&[]);
 
-        let (mut buffer, mut out) = (bytes(buffer_len), numbers(len));
-        let (header, le, mode, data) = (self.header, self.le, self.mode, self.data);
-        let reply =
-            gorvisclen::serialize_into(header, le, mode, data, buffer.part(), at, out.part());
-        let ours = Outcome::new(reply, out, buffer).reading(&[self.data]);
+    let fields = model::fields(data.len(), le, mode);
+    let [lc_len, le_len] = [fields[0].len(), fields[1].len()];
+    let [cla, ins, p1, p2] = header.map(u64::from);
+    let extended = (lc_len > 1 || le_len > 1).into();
+    let (place, shown) = (4 + lc_len as u64, model::shown(le, mode).into());
+    let answer = [cla, ins, p1, p2, place, data.len() as u64, shown, extended];
+    let theirs = Left::written(answer, 0, data);
 
-        let input = || {
-            format!(
-                "{}, buffer of {buffer_len} bytes, from {at}, out of {len} numbers",
-                self.shown()
-            )
-        };
-        tally.compare(operation, &[], input, &theirs, &ours);
-    }
-
-    pub fn write(&self, tally: &mut Tally, buffer_len: usize, at: usize, len: usize) {
-        let operation = match self.name(&WRITE) {
-            name if name != WRITE.too_long && at > buffer_len => PAST,
-            name => name,
-        };
-        self.writing(tally, operation, (buffer_len, at, len), |buffer| {
-            let builder = made(self)?;
-            if len == 0 {
-                return Err(16);
-            }
-            self.write_by_rust(&*builder, buffer, at)
-        });
-    }
-
-    /// Holds that to fields Lc and Le that are written down, and compares it.
-    pub fn writes_by_paper(&self, tally: &mut Tally, lc: &[u8], le: &[u8]) {
-        let (at, command) = (2, [&self.header, lc, self.data, le].concat());
-        let end = at + command.len();
-        self.writing(tally, WRITTEN, (end + 2, at, 1), |buffer| {
-            buffer[at..end].copy_from_slice(&command);
-            Ok(command.len() as u64)
-        });
-        self.write(tally, end + 2, at, 1);
-    }
-
-    /// Holds what is written from a place to be read again, in both readings.
-    pub fn read_back(&self, tally: &mut Tally, at: usize) {
-        let (header, mode, data) = (self.header, self.mode, self.data);
-        let mut buffer = vec![0xEE; at + self.len_in(mode) + 3];
-        let mut written = [0];
-        // A refusal leaves nothing to read, which is then seen.
-        let _ =
-            gorvisclen::serialize_into(header, self.le, mode, data, &mut buffer, at, &mut written);
-        let apdu = buffer[at..].get(..written[0] as usize).unwrap_or(&[]);
-
-        let [lc, le] = model::fields(data.len(), self.le, mode);
-        let [cla, ins, p1, p2] = header.map(u64::from);
-        let place = 4 + lc.len() as u64;
-        let shown = model::shown(self.le, mode).into();
-        let extended = (lc.len() > 1 || le.len() > 1).into();
-        let answer = [cla, ins, p1, p2, place, data.len() as u64, shown, extended];
-
-        for reading in [CRATE_READING, STANDARD_READING] {
+    for reading in [CRATE_READING, STANDARD_READING] {
+        let outcome = |call: &dyn Fn(&mut [u8], &mut [u64]) -> Reply| {
             let (mut out, mut to) = (numbers(COMMAND_NUMBERS), bytes(data.len()));
-            out.part().copy_from_slice(&answer);
-            to.part().copy_from_slice(data);
-            let theirs = Outcome::new(Ok(()), out, to);
-
-            let (mut out, mut to) = (numbers(COMMAND_NUMBERS), bytes(data.len()));
-            let reply = gorvisclen::command(reading, apdu, out.part())
-                .and_then(|()| gorvisclen::command_data(reading, apdu, to.part(), &mut [0]));
-            let ours = Outcome::new(reply, out, to);
-
-            let input = || format!("{}, written {}, reading {reading}", self.shown(), hex(apdu));
-            tally.compare(READ_BACK, &[], input, &theirs, &ours);
-        }
+            let reply = call(to.part(), out.part());
+            Outcome::new(reply, out, to)
+        };
+        let ours = outcome(&|to, out| {
+            gorvisclen::command(reading, apdu, out)?;
+            gorvisclen::command_data(reading, apdu, to, &mut [0])
+        });
+        let theirs = outcome(&|to, out| theirs.write(to, out));
+        let input = || format!("{asked:?}, written {:?}, reading {reading}", Hex(apdu));
+        tally.compare((READ_BACK, &[]), input, &theirs, &ours);
     }
 }

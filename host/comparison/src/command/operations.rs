@@ -1,10 +1,12 @@
-//! The operations on a command, each run on both sides and compared.
+//! The operations on a command.
 
-use gorvisclen::{Refused, COMMAND_NUMBERS, CRATE_READING, OWNED_NUMBERS};
-use original::command::{Command, CommandView, FromSliceError};
+use gorvisclen::{Reply, COMMAND_NUMBERS, CRATE_READING, OWNED_NUMBERS};
+use original::command::{Command, CommandView};
 
+use super::parsed::{by_rust, of_owned, refusal, Parsed};
 use super::standard::{by_table, NO_CASE, STANDARD_DATA, STANDARD_OWNED};
-use crate::lent::{bytes, demanded, hex, left, numbers, or_short, Outcome};
+use crate::call::{Answer, Call, Left, Names};
+use crate::lent::{bytes, Hex};
 use crate::tally::Tally;
 
 /// What each number of a command is.
@@ -30,75 +32,167 @@ const OF_OWNED: [&str; OWNED_NUMBERS] = [
     "Command::extended",
 ];
 
-const PAST_THE_ROOM: &str =
-    "Command::extend_from_command_view, held length past the room (no Rust: held to a rule, 18)";
+const EXTENDED: Names = ("Command::extend_from_command_view", &OF_OWNED);
 
-fn refusal(error: FromSliceError) -> u8 {
-    match error {
-        FromSliceError::TooShort => 1,
-        FromSliceError::TooLong => 2,
-        FromSliceError::InvalidClass => 3,
-        FromSliceError::InvalidFirstBodyByteForExtended => 4,
-        FromSliceError::InvalidSliceLength => 5,
+/// One command in one reading.
+#[derive(Clone, Copy, Debug)]
+pub struct Asked<'a> {
+    pub reading: u8,
+    pub apdu: Hex<'a, u8>,
+}
+
+impl<'a> Asked<'a> {
+    pub fn of(reading: u8, apdu: &'a [u8]) -> Self {
+        let apdu = Hex(apdu);
+        Asked { reading, apdu }
+    }
+
+    fn parsed(&self) -> Result<Parsed<'a>, u8> {
+        match self.reading {
+            CRATE_READING => by_rust(self.apdu.0),
+            _ => by_table(self.apdu.0),
+        }
+    }
+
+    pub fn data_len(&self) -> usize {
+        self.parsed().map_or(0, |parsed| parsed.data.len())
     }
 }
 
-/// A command as a reading has it: what the parse counts for, its numbers, its data.
-pub struct Parsed<'a> {
-    pub operation: &'static str,
-    pub numbers: [u64; COMMAND_NUMBERS],
-    pub data: &'a [u8],
+#[derive(Debug)]
+pub struct Parse<'a>(pub Asked<'a>);
+
+impl Call<COMMAND_NUMBERS> for Parse<'_> {
+    fn names(&self, _: usize, _: &Answer<COMMAND_NUMBERS>) -> Names {
+        match self.0.reading {
+            CRATE_READING => ("CommandView::try_from", &NUMBERS),
+            _ => (
+                by_table(&self.0.apdu).map_or(NO_CASE, |parsed| parsed.operation),
+                &[],
+            ),
+        }
+    }
+
+    fn read(&self) -> Vec<u8> {
+        self.0.apdu.to_vec()
+    }
+
+    fn ours(&self, _: &mut [u8], out: &mut [u64]) -> Reply {
+        gorvisclen::command(self.0.reading, &self.0.apdu, out)
+    }
+
+    fn rust(&self, _: usize) -> Answer<'_, COMMAND_NUMBERS> {
+        Ok(by_rust(&self.0.apdu)?.numbers.into())
+    }
+
+    fn theirs(&self, _: usize) -> Answer<'_, COMMAND_NUMBERS> {
+        Ok(self.0.parsed()?.numbers.into())
+    }
 }
 
-pub fn by_rust(apdu: &[u8]) -> Result<Parsed<'_>, u8> {
-    let view = CommandView::try_from(apdu).map_err(refusal)?;
-    let data = view.data();
-    let place = data.as_ptr() as usize - apdu.as_ptr() as usize;
-    let instruction: u8 = view.instruction().into();
-    let numbers = [
-        view.class().into_inner().into(),
-        instruction.into(),
-        view.p1.into(),
-        view.p2.into(),
-        place as u64,
-        data.len() as u64,
-        view.expected() as u64,
-        view.extended.into(),
-    ];
-    Ok(Parsed {
-        operation: "CommandView::try_from",
-        numbers,
-        data,
-    })
+/// The data of a command, copied.
+#[derive(Debug)]
+pub struct Data<'a>(pub Asked<'a>);
+
+impl Call<1> for Data<'_> {
+    fn names(&self, _: usize, _: &Answer<1>) -> Names {
+        match self.0.reading {
+            CRATE_READING => ("CommandView::data", &[]),
+            _ => (STANDARD_DATA, &[]),
+        }
+    }
+
+    fn read(&self) -> Vec<u8> {
+        self.0.apdu.to_vec()
+    }
+
+    fn ours(&self, to: &mut [u8], out: &mut [u64]) -> Reply {
+        gorvisclen::command_data(self.0.reading, &self.0.apdu, to, out)
+    }
+
+    fn rust(&self, _: usize) -> Answer<'_, 1> {
+        Ok(Some(by_rust(&self.0.apdu)?.data).into())
+    }
+
+    fn theirs(&self, _: usize) -> Answer<'_, 1> {
+        Ok(Some(self.0.parsed()?.data).into())
+    }
 }
 
-/// An owned command: its numbers, and its data.
-pub struct Owned {
-    numbers: [u64; OWNED_NUMBERS],
-    data: Vec<u8>,
+/// An owned copy of a command. In the crate's reading, `to` is as long as one of the rooms.
+#[derive(Debug)]
+pub struct Own<'a>(pub Asked<'a>);
+
+impl Call<OWNED_NUMBERS> for Own<'_> {
+    fn names(&self, _: usize, _: &Answer<OWNED_NUMBERS>) -> Names {
+        match self.0.reading {
+            CRATE_READING => ("Command::try_from", &OF_OWNED),
+            _ => (STANDARD_OWNED, &[]),
+        }
+    }
+
+    fn read(&self) -> Vec<u8> {
+        self.0.apdu.to_vec()
+    }
+
+    fn ours(&self, to: &mut [u8], out: &mut [u64]) -> Reply {
+        gorvisclen::command_owned(self.0.reading, &self.0.apdu, to, out)
+    }
+
+    fn rust(&self, to_len: usize) -> Answer<'_, OWNED_NUMBERS> {
+        let room = ROOMS.iter().find(|room| room.len == to_len).unwrap();
+        (room.owned)(&self.0.apdu)
+    }
+
+    fn theirs(&self, to_len: usize) -> Answer<'_, OWNED_NUMBERS> {
+        if self.0.reading == CRATE_READING {
+            return self.rust(to_len);
+        }
+        let parsed = by_table(&self.0.apdu)?;
+        if parsed.data.len() > to_len {
+            return Err(2);
+        }
+        let [cla, ins, p1, p2, _, nc, ne, extended] = parsed.numbers;
+        let numbers = [cla, ins, p1, p2, nc, ne, extended];
+        Ok(Left::written(numbers, 0, parsed.data))
+    }
 }
 
-fn of_command<const S: usize>(command: &Command<S>) -> Owned {
-    let instruction: u8 = command.instruction().into();
-    let numbers = [
-        command.class().into_inner().into(),
-        instruction.into(),
-        command.p1.into(),
-        command.p2.into(),
-        command.data().len() as u64,
-        command.expected() as u64,
-        command.extended.into(),
-    ];
-    Owned {
-        numbers,
-        data: command.data().to_vec(),
+/// An owned command that holds so many bytes, extended by another. Where they are more than the room has, a rule says what is left.
+#[derive(Debug)]
+pub struct Extend<'a> {
+    pub len: usize,
+    pub apdu: Hex<'a, u8>,
+}
+
+impl Call<OWNED_NUMBERS> for Extend<'_> {
+    const NAME: &'static str =
+        "Command::extend_from_command_view, held length past the room (no Rust: held to a rule, 18)";
+
+    fn read(&self) -> Vec<u8> {
+        self.apdu.to_vec()
+    }
+
+    fn ours(&self, to: &mut [u8], out: &mut [u64]) -> Reply {
+        gorvisclen::command_extend(self.len, to, &self.apdu, out)
+    }
+
+    fn rust(&self, to_len: usize) -> Answer<'_, OWNED_NUMBERS> {
+        assert!(self.len > to_len);
+        let [cla, ins, p1, p2, _, _, expected, _] = by_rust(&self.apdu)?.numbers;
+        let numbers = [cla, ins, p1, p2, self.len as u64, expected, 1];
+        let refused = Some(18);
+        Ok(Left {
+            refused,
+            ..numbers.into()
+        })
     }
 }
 
 /// A room of a length that is a capacity of the Rust's `Command`, for what that type does.
 pub struct Room {
     pub len: usize,
-    owned: fn(&[u8]) -> Result<Owned, u8>,
+    owned: fn(&[u8]) -> Answer<OWNED_NUMBERS>,
     pub extended: fn(&mut Tally, usize, &[Piece]),
 }
 
@@ -125,15 +219,14 @@ impl Room {
     const fn of<const S: usize>() -> Self {
         Room {
             len: S,
-            owned: owned::<S>,
+            owned: |apdu| {
+                let command = Command::<S>::try_from(apdu).map_err(refusal)?;
+                let data = command.data().to_vec();
+                Ok(Left::written(of_owned(&command), 0, data))
+            },
             extended: extended::<S>,
         }
     }
-}
-
-fn owned<const S: usize>(apdu: &[u8]) -> Result<Owned, u8> {
-    let command = Command::<S>::try_from(apdu).map_err(refusal)?;
-    Ok(of_command(&command))
 }
 
 /// A command to extend by, and how many numbers are lent for the answer.
@@ -149,184 +242,34 @@ fn extended<const S: usize>(tally: &mut Tally, len: usize, pieces: &[Piece]) {
     let front = &room.part()[..len];
     held.data_mut().extend_from_slice(front).unwrap();
     for &Piece { apdu, out_len } in pieces {
-        let (before, len) = (room.clone(), held.data().len());
-        // The same by an owned command, where the rooms are short.
-        let by_owned = Command::<600>::try_from(apdu).ok().filter(|_| S <= 600);
-        let mut other = by_owned.is_some().then(|| held.clone());
-        let mut out = numbers(out_len);
-        let view = CommandView::try_from(apdu).map_err(refusal);
-        let reply = or_short(view, out_len >= OWNED_NUMBERS).and_then(|view| {
-            let done = held.extend_from_command_view(view);
-            if let (Some(other), Some(owned)) = (&mut other, &by_owned) {
-                let same = other.extend_from_command(owned) == done && *other == held;
-                assert!(same, "the Rust's extensions part: {}", hex(apdu));
-            }
-            let now = of_command(&held);
-            out.part()[..OWNED_NUMBERS].copy_from_slice(&now.numbers);
-            room.part()[..now.data.len()].copy_from_slice(&now.data);
-            done.map_err(|_| Refused(18))
-        });
-        let theirs = Outcome::new(reply, out, room.clone()).reading(&[apdu]);
-
-        let (mut to, mut out) = (before, numbers(out_len));
-        let reply = gorvisclen::command_extend(len, to.part(), apdu, out.part());
-        let ours = Outcome::new(reply, out, to).reading(&[apdu]);
-
-        let input = || {
-            format!(
-                "held {len} of {S} bytes, by {}, out of {out_len} numbers",
-                hex(apdu)
-            )
+        let len = held.data().len();
+        let answer = match CommandView::try_from(apdu).map_err(refusal) {
+            Err(number) => Err(number),
+            Ok(_) if out_len < OWNED_NUMBERS => Err(16),
+            Ok(view) => Ok(extend(&mut held, view, apdu)),
         };
-        let operation = "Command::extend_from_command_view";
-        tally.compare(operation, &OF_OWNED, input, &theirs, &ours);
+        let apdu = Hex(apdu);
+        Extend { len, apdu }.held(tally, EXTENDED, &answer, &room, out_len);
+        room.part()[..held.data().len()].copy_from_slice(held.data());
     }
 }
 
-/// The same for one piece where `len` bytes are more than the room has: refusal 18, and the numbers.
-pub fn extended_past(tally: &mut Tally, len: usize, room_len: usize, piece: &Piece) {
-    let &Piece { apdu, out_len } = piece;
-    let mut out = numbers(out_len);
-    let reply = or_short(by_rust(apdu), out_len >= OWNED_NUMBERS).and_then(|parsed| {
-        let [cla, ins, p1, p2, _, _, expected, _] = parsed.numbers;
-        let now = [cla, ins, p1, p2, len as u64, expected, 1];
-        out.part()[..OWNED_NUMBERS].copy_from_slice(&now);
-        Err(Refused(18))
-    });
-    let theirs = Outcome::new(reply, out, bytes(room_len)).reading(&[apdu]);
-
-    let (mut to, mut out) = (bytes(room_len), numbers(out_len));
-    let reply = gorvisclen::command_extend(len, to.part(), apdu, out.part());
-    let ours = Outcome::new(reply, out, to).reading(&[apdu]);
-
-    let input = || {
-        format!(
-            "held {len} of {room_len} bytes, by {}, out of {out_len} numbers",
-            hex(apdu)
-        )
-    };
-    tally.compare(PAST_THE_ROOM, &[], input, &theirs, &ours);
-}
-
-/// One command in one reading.
-pub struct Asked<'a> {
-    pub reading: u8,
-    pub apdu: &'a [u8],
-}
-
-impl Asked<'_> {
-    fn parsed(&self) -> Result<Parsed<'_>, u8> {
-        match self.reading {
-            CRATE_READING => by_rust(self.apdu),
-            _ => by_table(self.apdu),
-        }
+/// Extends it by a view, and where the rooms are short, a copy of it by an owned command, which has to do the same.
+fn extend<const S: usize>(
+    held: &mut Command<S>,
+    view: CommandView,
+    apdu: &[u8],
+) -> Left<'static, OWNED_NUMBERS> {
+    let by_owned = Command::<600>::try_from(apdu).ok().filter(|_| S <= 600);
+    let other = by_owned.map(|owned| (owned, held.clone()));
+    let done = held.extend_from_command_view(view);
+    if let Some((owned, mut other)) = other {
+        let same = other.extend_from_command(&owned) == done && other == *held;
+        assert!(same, "the Rust's extensions part: {:?}", Hex(apdu));
     }
-
-    /// Of two names, that for the reading.
-    fn name(&self, by_rust: &'static str, by_table: &'static str) -> &'static str {
-        match self.reading {
-            CRATE_READING => by_rust,
-            _ => by_table,
-        }
-    }
-
-    pub fn data_len(&self) -> usize {
-        self.parsed().map_or(0, |parsed| parsed.data.len())
-    }
-
-    fn shown(&self) -> String {
-        format!("reading {}, command {}", self.reading, hex(self.apdu))
-    }
-
-    /// Parses; the command's own bytes are compared too where `whole` is.
-    pub fn parse(&self, tally: &mut Tally, len: usize, whole: bool) {
-        let read: &[u8] = if whole { self.apdu } else { &[] };
-        let parsed = self.parsed();
-        let operation = match &parsed {
-            Ok(parsed) => parsed.operation,
-            Err(_) => self.name("CommandView::try_from", NO_CASE),
-        };
-        let theirs = demanded(parsed.map(|parsed| parsed.numbers), numbers(len)).reading(&[read]);
-        let ours = left(numbers(len), |out| {
-            gorvisclen::command(self.reading, self.apdu, out)
-        })
-        .reading(&[read]);
-        let input = || format!("{}, out of {len} numbers", self.shown());
-        let numbers: &[_] = match self.reading {
-            CRATE_READING => &NUMBERS,
-            _ => &[],
-        };
-        tally.compare(operation, numbers, input, &theirs, &ours);
-    }
-
-    pub fn data(&self, tally: &mut Tally, to_len: usize, len: usize) {
-        let (mut to, mut out) = (bytes(to_len), numbers(len));
-        let data = self.parsed().map(|parsed| parsed.data);
-        let room = data.as_ref().map_or(true, |data| to_len >= data.len());
-        let reply = or_short(data, room && len >= 1).map(|data| {
-            to.part()[..data.len()].copy_from_slice(data);
-            out.part()[0] = data.len() as u64;
-        });
-        let theirs = Outcome::new(reply, out, to).reading(&[self.apdu]);
-
-        let (mut to, mut out) = (bytes(to_len), numbers(len));
-        let reply = gorvisclen::command_data(self.reading, self.apdu, to.part(), out.part());
-        let ours = Outcome::new(reply, out, to).reading(&[self.apdu]);
-
-        let input = || {
-            format!(
-                "{}, to of {to_len} bytes, out of {len} numbers",
-                self.shown()
-            )
-        };
-        let operation = self.name("CommandView::data", STANDARD_DATA);
-        tally.compare(operation, &[], input, &theirs, &ours);
-    }
-
-    /// The owned copy, which has to be `owned` in a room of that length.
-    fn copy(&self, tally: &mut Tally, owned: Result<Owned, u8>, room_len: usize, len: usize) {
-        let (mut room, mut out) = (bytes(room_len), numbers(len));
-        let reply = or_short(owned, len >= OWNED_NUMBERS).map(|owned| {
-            room.part()[..owned.data.len()].copy_from_slice(&owned.data);
-            out.part()[..OWNED_NUMBERS].copy_from_slice(&owned.numbers);
-        });
-        let theirs = Outcome::new(reply, out, room).reading(&[self.apdu]);
-
-        let (mut room, mut out) = (bytes(room_len), numbers(len));
-        let reply = gorvisclen::command_owned(self.reading, self.apdu, room.part(), out.part());
-        let ours = Outcome::new(reply, out, room).reading(&[self.apdu]);
-
-        let input = || {
-            format!(
-                "{}, room of {room_len} bytes, out of {len} numbers",
-                self.shown()
-            )
-        };
-        let (operation, numbers): (_, &[_]) = match self.reading {
-            CRATE_READING => ("Command::try_from", &OF_OWNED),
-            _ => (STANDARD_OWNED, &[]),
-        };
-        tally.compare(operation, numbers, input, &theirs, &ours);
-    }
-
-    /// The owned copy in a room that the Rust has too.
-    pub fn own(&self, tally: &mut Tally, room: &Room, len: usize) {
-        match self.reading {
-            CRATE_READING => self.copy(tally, (room.owned)(self.apdu), room.len, len),
-            _ => self.own_by_table(tally, room.len, len),
-        }
-    }
-
-    pub fn own_by_table(&self, tally: &mut Tally, room_len: usize, len: usize) {
-        let owned = by_table(self.apdu).and_then(|parsed| {
-            let [cla, ins, p1, p2, _, nc, ne, extended] = parsed.numbers;
-            let numbers = [cla, ins, p1, p2, nc, ne, extended];
-            let data = parsed.data.to_vec();
-            if data.len() > room_len {
-                return Err(2);
-            }
-            Ok(Owned { numbers, data })
-        });
-        self.copy(tally, owned, room_len, len);
+    let left = Left::written(of_owned(held), 0, held.data().to_vec());
+    Left {
+        refused: done.is_err().then_some(18),
+        ..left
     }
 }

@@ -1,6 +1,6 @@
 //! The standard reading of a command, which the Rust does not have, as a table.
 
-use super::operations::Parsed;
+use super::parsed::Parsed;
 
 macro_rules! standard {
     ($operation:literal) => {

@@ -3,12 +3,16 @@
 
 use std::ops::Range;
 
-use gorvisclen::{Reassembler, Refused, JOIN_NUMBERS};
+use gorvisclen::{Reassembler, JOIN_NUMBERS};
 use original::command::{Command, CommandView, FromSliceError};
 
-use super::model::BIT;
+use super::model::{rest, BIT};
+use super::pieces::{around, some_header, some_piece};
+use super::steps::Join;
+use crate::call::{Answer, Call, Left};
+use crate::command::of_owned;
 use crate::inputs::Inputs;
-use crate::lent::{bytes, hex, numbers, Lent, Outcome};
+use crate::lent::{bytes, Hex, Lent};
 use crate::tally::Tally;
 
 const FIRST: &str = "Reassembler::join, a first piece, beside Command::try_from (2 is 18 here)";
@@ -49,94 +53,67 @@ pub const SHORT_ROOMS: usize = 10;
 
 /// The 14 numbers of a command that the Rust holds: that of a last piece, or the record of a chain that goes on.
 fn told<const S: usize>(held: &Command<S>) -> [u64; JOIN_NUMBERS] {
-    let class = held.class().into_inner();
-    let instruction: u8 = held.instruction().into();
-    let header = [class, instruction, held.p1, held.p2].map(u64::from);
-    let len = held.data().len() as u64;
+    let numbers = of_owned(held);
     let mut told = [0; JOIN_NUMBERS];
-    match class & BIT {
+    match held.class().into_inner() & BIT {
         0 => {
             told[0] = 1;
-            told[1..5].copy_from_slice(&header);
-            told[5..8].copy_from_slice(&[len, held.expected() as u64, held.extended.into()]);
+            told[1..8].copy_from_slice(&numbers);
         }
         _ => {
             told[8] = 1;
-            told[9..13].copy_from_slice(&header);
-            told[13] = len;
+            told[9..].copy_from_slice(&numbers[..5]);
         }
     }
     told
 }
 
-/// One piece: the Rust's answer in the numbers and the room that have to be left, and ours.
-fn compare<const S: usize>(
-    tally: &mut Tally,
-    operation: &'static str,
-    record: Reassembler,
-    piece: &[u8],
-    before: &Lent<u8>,
-    theirs: Result<&Command<S>, u8>,
-) -> Reassembler {
-    let (mut room, mut out) = (before.clone(), numbers(JOIN_NUMBERS));
-    let mut rest = record;
-    let reply = theirs.map_err(Refused).map(|held| {
-        room.part()[..held.data().len()].copy_from_slice(held.data());
-        let numbers = told(held);
-        out.part().copy_from_slice(&numbers);
-        let [.., a, b, c, d, e, f] = numbers;
-        rest = Reassembler::of([a, b, c, d, e, f]);
-    });
-    let theirs = Outcome::new(reply, out, room).reading(&[piece]);
-
-    let (mut room, mut out) = (before.clone(), numbers(JOIN_NUMBERS));
-    let reply = record.join(piece, room.part(), out.part());
-    let ours = Outcome::new(reply, out, room).reading(&[piece]);
-    let input = || format!("{record:?}, piece {}, room of {S} bytes", hex(piece));
-    tally.compare(operation, &[], input, &theirs, &ours);
-    rest
+/// What has to be left where the Rust holds this.
+fn left<const S: usize>(held: &Command<S>) -> Left<'_, JOIN_NUMBERS> {
+    Left::written(told(held), 0, &held.data()[..])
 }
 
 /// Pieces of one header, all but the last with bit 0x10. The first `filled` bytes of the room are from an earlier chain.
 fn beside<const S: usize>(tally: &mut Tally, pieces: &[Vec<u8>], filled: usize) {
     let mut room = bytes(S);
     room.part()[..filled.min(S)].fill(0x5C);
+    let mut record = Reassembler::CLOSED;
+    let mut compare = |name, piece, answer: Answer<JOIN_NUMBERS>, room: &Lent<u8>| {
+        let piece = Hex(piece);
+        Join { record, piece }.held(tally, (name, &[]), &answer, room, JOIN_NUMBERS);
+        record = answer.map_or(record, |left| rest(left.numbers));
+    };
     let first = Command::<S>::try_from(&pieces[0][..]);
-    let theirs = first.as_ref().map_err(|error| match error {
+    let theirs = first.as_ref().map(left).map_err(|error| match error {
         FromSliceError::TooLong => 18,
-        _ => panic!("a piece that the Rust does not read: {}", hex(&pieces[0])),
+        _ => panic!("a piece that the Rust does not read: {:?}", Hex(&pieces[0])),
     });
-    let mut record = compare(tally, FIRST, Reassembler::CLOSED, &pieces[0], &room, theirs);
+    compare(FIRST, &pieces[0], theirs, &room);
     let Ok(mut held) = first else { return };
     room.part()[..held.data().len()].copy_from_slice(held.data());
     for piece in &pieces[1..] {
         let view = CommandView::try_from(&piece[..]).unwrap();
         let done = held.extend_from_command_view(view);
-        let theirs = done.map(|()| &held).map_err(|_| 18);
-        record = compare(tally, FURTHER, record, piece, &room, theirs);
+        let theirs = done.map(|()| left(&held)).map_err(|_| 18);
+        compare(FURTHER, piece, theirs, &room);
         // Refused with 18, the Rust's has the same data still.
         room.part()[..held.data().len()].copy_from_slice(held.data());
     }
 }
 
-/// Chains beside the Rust, their pieces made by `some_piece` of a header and a length.
-pub fn chains(
-    tally: &mut Tally,
-    inputs: &mut Inputs,
-    some_piece: impl Fn(&mut Inputs, [u8; 4], usize) -> Vec<u8>,
-    turns: Range<usize>,
-) {
+/// Chains beside the Rust.
+pub fn chains(tally: &mut Tally, inputs: &mut Inputs, turns: Range<usize>) {
     for turn in turns {
         let room = match turn % 50 {
             0 => &ROOMS[SHORT_ROOMS + inputs.below(ROOMS.len() - SHORT_ROOMS)],
             _ => &ROOMS[inputs.below(SHORT_ROOMS)],
         };
-        let header = super::some_header(inputs);
+        let header = some_header(inputs);
         let several = 1 + inputs.below(6);
         let mut left = room.len;
         let pieces: Vec<Vec<u8>> = (1..=several)
             .map(|i| {
-                let n = super::around(inputs, left.min(65_535));
+                let n = around(inputs, left.min(65_535));
                 left -= n.min(left);
                 let class = match i == several {
                     true => header[0] & !BIT,

@@ -3,12 +3,14 @@
 
 use std::ops::Range;
 
-use gorvisclen::{Pieces, Reassembler, Refused, BUFFER_LEN, JOIN_NUMBERS, PIECE_NUMBERS};
+use gorvisclen::{Pieces, Reassembler, BUFFER_LEN, JOIN_NUMBERS, PIECE_NUMBERS};
 
 use super::model::{self, BIT};
-use super::{around, some_header, some_piece, steps};
+use super::pieces::{around, some_header, some_piece};
+use super::steps::Data;
+use crate::call::{leave, Answer, Call, Left};
 use crate::inputs::Inputs;
-use crate::lent::{bytes, hex, numbers, Lent, Outcome};
+use crate::lent::{bytes, numbers, Hex, Lent, Outcome};
 use crate::tally::Tally;
 
 const MORE: &str = "cut and joined: more (held to document 01)";
@@ -16,11 +18,11 @@ const COMMAND: &str = "cut and joined: the command comes back (held to document 
 const BETWEEN: &str = "cut and joined: a piece between (held to document 01)";
 
 /// A command, and the most bytes of its pieces.
-struct Command {
-    header: [u8; 4],
-    le: u16,
-    data: Vec<u8>,
-    available: usize,
+pub struct Command {
+    pub header: [u8; 4],
+    pub le: u16,
+    pub data: Vec<u8>,
+    pub available: usize,
 }
 
 impl Command {
@@ -50,7 +52,7 @@ impl Command {
     }
 
     /// Its pieces, as the exported cutter writes them.
-    fn pieces(&self) -> Vec<Vec<u8>> {
+    pub fn pieces(&self) -> Vec<Vec<u8>> {
         let chain = Pieces::new_non_extended(self.header, &self.data, self.le, self.available);
         let mut chain = chain.expect("a chain");
         let mut buffer = vec![0; self.available.min(BUFFER_LEN)];
@@ -85,48 +87,36 @@ struct Run {
 }
 
 impl Run {
-    /// Joins a piece, which has to be refused with a number, or to leave these numbers and the room that is demanded.
+    /// Joins a piece, which has to be answered so. Both rooms go on from piece to piece: a copy of them for each would take long.
     fn join(
         &mut self,
         tally: &mut Tally,
-        operation: &'static str,
+        name: &'static str,
         piece: &[u8],
-        demanded: Result<[u64; JOIN_NUMBERS], u8>,
+        demanded: Answer<JOIN_NUMBERS>,
     ) {
-        let mut out = [0; JOIN_NUMBERS];
         let record = self.record;
-        let reply = record.join(piece, self.room.part(), &mut out);
-        let as_demanded = match demanded {
-            Ok(numbers) => reply == Ok(()) && out == numbers,
-            Err(number) => reply == Err(Refused(number)) && out == [0; JOIN_NUMBERS],
-        };
-        let number = demanded.err().unwrap_or(0);
-        if as_demanded && self.room == self.demanded {
-            tally.count(operation, &[], number, 1);
+        let [mut told, mut out] = [0; 2].map(|_| numbers(JOIN_NUMBERS));
+        let reply = leave(&demanded, self.demanded.part(), told.part());
+        let our_reply = record.join(piece, self.room.part(), out.part());
+        if (reply, &told, &self.demanded) == (our_reply, &out, &self.room) {
+            tally.count(
+                (name, &[]),
+                demanded.as_ref().err().copied().unwrap_or(0),
+                1,
+            );
         } else {
-            let outcome = |reply, told: &[u64], room: &Lent<u8>| {
-                let mut out = numbers(JOIN_NUMBERS);
-                out.part().copy_from_slice(told);
-                Outcome::new(reply, out, room.clone())
-            };
-            let told = demanded.unwrap_or([0; JOIN_NUMBERS]);
-            let theirs = outcome(demanded.map(|_| ()).map_err(Refused), &told, &self.demanded);
-            let ours = outcome(reply, &out, &self.room);
-            let input = || format!("{record:?}, piece {}", hex(piece));
-            tally.compare(operation, &[], input, &theirs, &ours);
+            let theirs = Outcome::new(reply, told, self.demanded.clone());
+            let ours = Outcome::new(our_reply, out, self.room.clone());
+            let input = || format!("{record:?}, piece {:?}", Hex(piece));
+            tally.compare((name, &[]), input, &theirs, &ours);
         }
-        if let Ok([.., a, b, c, d, e, f]) = demanded {
-            self.record = Reassembler::of([a, b, c, d, e, f]);
-        }
+        self.record = demanded.map_or(record, |left| model::rest(left.numbers));
     }
 
     /// A piece that is refused where it stands, if one was found. `header` is that of the piece behind it.
-    fn refused(
-        &self,
-        inputs: &mut Inputs,
-        room_len: usize,
-        header: [u8; 4],
-    ) -> Option<(Vec<u8>, u8)> {
+    fn refused(&self, inputs: &mut Inputs, header: [u8; 4]) -> Option<(Vec<u8>, u8)> {
+        let room_len = self.room.len();
         let free = room_len.saturating_sub(self.record.held);
         for _ in 0..8 {
             let mut other = header;
@@ -157,31 +147,28 @@ impl Run {
     /// A command, its pieces each behind up to `most` others.
     fn command(&mut self, tally: &mut Tally, inputs: &mut Inputs, command: &Command, most: usize) {
         let pieces = command.pieces();
-        let room_len = self.room.part().len();
+        let room_len = self.room.len();
         for (i, piece) in pieces.iter().enumerate() {
             for _ in 0..inputs.below(most + 1) {
                 let header = [piece[0], piece[1], piece[2], piece[3]];
-                if let Some((between, number)) = self.refused(inputs, room_len, header) {
+                if let Some((between, number)) = self.refused(inputs, header) {
                     self.join(tally, BETWEEN, &between, Err(number));
                 }
             }
             if i + 1 < pieces.len() {
-                let joined = model::join(self.record, piece, room_len)
-                    .ok()
-                    .expect("a piece");
-                assert!(!joined.given());
-                self.demanded.part()[joined.from..][..joined.data.len()]
-                    .copy_from_slice(joined.data);
-                self.join(tally, MORE, piece, Ok(joined.numbers));
+                let joined = model::join(self.record, piece, room_len).ok();
+                let joined = joined.expect("a piece");
+                assert_eq!(joined.numbers[0], 0, "a command");
+                let left = Left::written(joined.numbers, joined.from, joined.data);
+                self.join(tally, MORE, piece, Ok(left));
             } else {
-                let n = command.data.len();
-                self.demanded.part()[..n].copy_from_slice(&command.data);
                 let numbers = command.numbers(pieces.len() > 1);
-                self.join(tally, COMMAND, piece, Ok(numbers));
+                let left = Left::written(numbers, 0, &command.data[..]);
+                self.join(tally, COMMAND, piece, Ok(left));
             }
         }
-        let n = command.data.len();
-        steps::data(tally, n, self.room.part(), n + inputs.below(3), 1);
+        let (joined, room) = (command.data.len(), Hex(self.room.part()));
+        Data { joined, room }.compare(tally, joined + inputs.below(3), 1);
     }
 }
 

@@ -14,17 +14,9 @@ pub struct Joined<'a> {
     pub numbers: [u64; JOIN_NUMBERS],
 }
 
-impl Joined<'_> {
-    /// Whether the answer is a command.
-    pub fn given(&self) -> bool {
-        self.numbers[0] == 1
-    }
-
-    /// The record after the piece.
-    pub fn rest(&self) -> Reassembler {
-        let [.., a, b, c, d, e, f] = self.numbers;
-        Reassembler::of([a, b, c, d, e, f])
-    }
+/// The record after a piece of which these numbers are told.
+pub fn rest([.., a, b, c, d, e, f]: [u64; JOIN_NUMBERS]) -> Reassembler {
+    Reassembler::of([a, b, c, d, e, f])
 }
 
 /// A header without the bit.

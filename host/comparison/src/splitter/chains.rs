@@ -1,9 +1,10 @@
 //! Chains in short mode: made, and cut piece by piece into lent buffers.
 
-use gorvisclen::{Refused, Reply, PIECE_NUMBERS};
+use gorvisclen::{Pieces, Reply, PIECE_NUMBERS};
 
 use super::rust;
-use crate::lent::{bytes, hex, numbers, or_short, Outcome};
+use crate::call::{Answer, Call, Left, Names};
+use crate::lent::{bytes, Hex};
 use crate::tally::Tally;
 
 const NEW: &str = "CommandBuilder::new_non_extended";
@@ -20,161 +21,160 @@ const NONE_LEFT: &str = "ChainedCommandIterator::next, none left";
 const DONE: &str =
     "ChainedCommandIterator::next, none left, whatever else is said (held to a rule)";
 
-/// A chain to cut, as a host has it.
-#[derive(Clone, Copy)]
+/// A chain to cut, as a host has it; and how it is made.
+#[derive(Clone, Copy, Debug)]
 pub struct Asked<'a> {
-    pub chain: gorvisclen::Pieces,
-    pub data: &'a [u8],
+    pub chain: Pieces,
+    pub data: Hex<'a, u8>,
 }
 
-/// Where a piece is to be written: the buffer's length, the place, and how many numbers are lent.
-pub type Into = (usize, usize, usize);
+/// The next piece of a chain, written from a place.
+#[derive(Debug)]
+struct Next<'a> {
+    asked: Asked<'a>,
+    at: usize,
+}
+
+impl Call<0> for Asked<'_> {
+    fn names(&self, _: usize, _: &Answer<0>) -> Names {
+        match self.data.len() {
+            0..=65_535 if self.chain.available < 10 => (NEW_SMALL, &[]),
+            0..=65_535 => (NEW, &[]),
+            _ => (NEW_TOO_LONG, &[]),
+        }
+    }
+
+    fn ours(&self, _: &mut [u8], _: &mut [u64]) -> Reply {
+        let Pieces {
+            header,
+            le,
+            available,
+            ..
+        } = self.chain;
+        let chain = Pieces::new_non_extended(header, &self.data, le, available)?;
+        assert_eq!(chain, self.chain);
+        Ok(())
+    }
+
+    fn rust(&self, _: usize) -> Answer<'_, 0> {
+        self.of_rust().map(|_| [].into())
+    }
+}
+
+impl Call<PIECE_NUMBERS> for Next<'_> {
+    fn names(&self, _: usize, _: &Answer<PIECE_NUMBERS>) -> Names {
+        match self.asked.chain {
+            Pieces { done: true, .. } => (DONE, &[]),
+            Pieces {
+                available: 0..10, ..
+            } => (NEXT_SMALL, &[]),
+            _ => (NEXT_AT, &[]),
+        }
+    }
+
+    fn ours(&self, to: &mut [u8], out: &mut [u64]) -> Reply {
+        let Asked { chain, data } = self.asked;
+        chain.write_next(&data, to, self.at, out)
+    }
+
+    fn rust(&self, _: usize) -> Answer<'_, PIECE_NUMBERS> {
+        let Asked { chain, data } = self.asked;
+        let Pieces {
+            header,
+            le,
+            available,
+            place,
+            done,
+        } = chain;
+        if done {
+            return Ok(self.answer(None));
+        }
+        if available < 10 {
+            return self.asked.of_rust().map(|_| self.answer(None));
+        }
+        let piece = rust::Chain::at(header, data.0, (le, place), available)?.next();
+        Ok(self.answer(piece.as_ref()))
+    }
+}
+
+impl Next<'_> {
+    /// What is left where this is the piece, or where none is left.
+    fn answer<'a>(&self, piece: Option<&rust::Piece>) -> Left<'a, PIECE_NUMBERS> {
+        match piece {
+            Some((bytes, numbers)) => Left::written(*numbers, self.at, bytes.clone()),
+            None => [0; PIECE_NUMBERS].into(),
+        }
+    }
+}
 
 impl<'a> Asked<'a> {
     pub fn new(header: [u8; 4], data: &'a [u8], le: u16, available: usize) -> Self {
-        let chain = gorvisclen::Pieces {
+        let chain = Pieces {
             header,
             le,
             available,
             place: 0,
             done: false,
         };
+        let data = Hex(data);
         Asked { chain, data }
-    }
-
-    pub fn shown(&self) -> String {
-        let gorvisclen::Pieces {
-            header,
-            le,
-            available,
-            place,
-            done,
-        } = self.chain;
-        format!(
-            "header {}, le {le}, pieces of {available} bytes, at {place}, done {done}, data {}",
-            hex(&header),
-            hex(self.data)
-        )
     }
 
     /// The chain of the Rust; 14 for a buffer under 10, behind its own refusals.
     fn of_rust(&self) -> Result<rust::Chain<'a>, u8> {
-        let gorvisclen::Pieces {
+        let Pieces {
             header,
             le,
             available,
             ..
         } = self.chain;
-        let made = rust::Chain::new(header, self.data, le, available)?;
+        let made = rust::Chain::new(header, self.data.0, le, available)?;
         match available {
             0..=9 => Err(14),
             _ => Ok(made),
         }
     }
 
-    /// Compares how a chain is made, and gives it where it is.
-    fn made(&self, tally: &mut Tally) -> Option<rust::Chain<'a>> {
-        let gorvisclen::Pieces {
-            header,
-            le,
-            available,
-            ..
-        } = self.chain;
-        let theirs = self.of_rust();
-        let operation = match self.data.len() {
-            0..=65_535 if available < 10 => NEW_SMALL,
-            0..=65_535 => NEW,
-            _ => NEW_TOO_LONG,
-        };
-        let outcome = |reply: Reply| Outcome::new(reply, numbers(0), bytes(0));
-        let reply = theirs.as_ref().map(|_| ()).map_err(|&n| Refused(n));
-        let ours = gorvisclen::Pieces::new_non_extended(header, self.data, le, available);
-        let as_told = ours.map(|chain| assert_eq!(chain, self.chain));
-        let input = || self.shown();
-        tally.compare(operation, &[], input, &outcome(reply), &outcome(as_told));
-        theirs.ok()
-    }
-
-    /// Compares one writing. `piece` are the bytes and numbers demanded, none where none is left.
-    fn written(
-        &self,
-        tally: &mut Tally,
-        operation: &'static str,
-        (buffer_len, at, len): Into,
-        piece: Result<Option<&rust::Piece>, u8>,
-    ) {
-        let (mut to, mut out) = (bytes(buffer_len), numbers(len));
-        let reply = or_short(piece, len >= PIECE_NUMBERS).and_then(|piece| {
-            let mut told = [0; PIECE_NUMBERS];
-            if let Some((piece, numbers)) = piece {
-                let end = at.checked_add(piece.len()).ok_or(Refused(16))?;
-                let part = to.part().get_mut(at..end).ok_or(Refused(16))?;
-                part.copy_from_slice(piece);
-                told = *numbers;
-            }
-            out.part()[..PIECE_NUMBERS].copy_from_slice(&told);
-            Ok(())
-        });
-        let theirs = Outcome::new(reply, out, to);
-
-        let (mut to, mut out) = (bytes(buffer_len), numbers(len));
-        let reply = self.chain.write_next(self.data, to.part(), at, out.part());
-        let ours = Outcome::new(reply, out, to);
-        let input = || {
-            format!(
-                "{}, buffer of {buffer_len} bytes, from {at}, out of {len} numbers",
-                self.shown()
-            )
-        };
-        tally.compare(operation, &[], input, &theirs, &ours);
-    }
-
     /// Compares a whole chain, piece by piece, each written from the place `before` of a buffer with `behind` bytes more than it may
     /// take. Now and then, by `short`, into one that is a byte too short first.
     pub fn cut(&self, tally: &mut Tally, (before, behind): (usize, usize), short: usize) {
-        let Some(mut theirs) = self.made(tally) else {
+        self.compare_numbers(tally, 0);
+        let Ok(mut theirs) = self.of_rust() else {
             return;
         };
         let mut asked = *self;
         let mut turn = 0;
+        let mut held =
+            |asked, piece: Option<&rust::Piece>, (len, at, out): (usize, usize, usize)| {
+                let (next, name) = (
+                    Next { asked, at },
+                    if piece.is_some() { NEXT } else { NONE_LEFT },
+                );
+                let answer = Ok(next.answer(piece));
+                next.held(tally, (name, &[]), &answer, &bytes(len), out);
+            };
         while let Some(piece) = theirs.next() {
             assert!(piece.0.len() <= self.chain.available);
             let exact = before + piece.0.len();
             if turn % short == short - 1 {
-                asked.written(tally, NEXT, (exact - 1, before, 5), Ok(Some(&piece)));
-                asked.written(tally, NEXT, (exact, before + 1, 6), Ok(Some(&piece)));
-                asked.written(tally, NEXT, (exact, before, 4), Ok(Some(&piece)));
-                asked.written(tally, NEXT, (exact, before, 5), Ok(Some(&piece)));
+                held(asked, Some(&piece), (exact - 1, before, 5));
+                held(asked, Some(&piece), (exact, before + 1, 6));
+                held(asked, Some(&piece), (exact, before, 4));
+                held(asked, Some(&piece), (exact, before, 5));
             }
             let into = (exact + behind, before, 5 + turn % 2);
-            asked.written(tally, NEXT, into, Ok(Some(&piece)));
+            held(asked, Some(&piece), into);
             asked.chain = asked.chain.behind(piece.1);
             turn += 1;
         }
         for len in [5, 6, 4, 0] {
             assert!(theirs.next().is_none());
-            asked.written(tally, NONE_LEFT, (before + behind, before, len), Ok(None));
+            held(asked, None, (before + behind, before, len));
         }
     }
 
-    /// Compares the next piece of a chain in any state.
-    pub fn next_at(&self, tally: &mut Tally, into: Into) {
-        let gorvisclen::Pieces {
-            header,
-            le,
-            available,
-            place,
-            done,
-        } = self.chain;
-        if done {
-            return self.written(tally, DONE, into, Ok(None));
-        }
-        if available < 10 {
-            let answer = self.of_rust().map(|_| None);
-            return self.written(tally, NEXT_SMALL, into, answer);
-        }
-        let answer = rust::next_at(header, self.data, (le, place), available);
-        let piece = answer.as_ref().map(Some).map_err(|&number| number);
-        self.written(tally, NEXT_AT, into, piece);
+    /// Compares the next piece of a chain in any state, into a buffer of a length, from a place.
+    pub fn next_at(self, tally: &mut Tally, (buffer_len, at, len): (usize, usize, usize)) {
+        Next { asked: self, at }.compare(tally, buffer_len, len);
     }
 }

@@ -2,10 +2,13 @@
 
 use gorvisclen::{Pieces, Refused, PIECE_NUMBERS};
 
+use super::steps::Step;
 use crate::builder::Asked;
+use crate::call::Call;
 use crate::lent::{bytes, numbers, Outcome};
 use crate::tally::Tally;
 
+const PAPER: &str = "CommandBuilder::should_split, case by case (held to document 01)";
 const PIECES: &str = "the pieces of a chain, case by case (held to document 01)";
 
 const HEADER: [u8; 4] = [0x00, 0xDB, 0x3F, 0xFF];
@@ -51,21 +54,22 @@ pub fn steps(tally: &mut Tally) {
     let data = vec![0xAA; 65_535];
     for (mode, available, n, le, parts) in STEPS {
         for class in [0x00, 0x80, 0xEF, 0x10] {
-            let [_, rest @ ..] = HEADER;
-            let header = [class, rest[0], rest[1], rest[2]];
+            let [_, instruction, p1, p2] = HEADER;
+            let header = [class, instruction, p1, p2];
             let answer = match parts {
                 None => [0; 6],
                 Some((len, le)) => [1, len, (class | 0x10).into(), 0, class.into(), le],
             };
             let asked = Asked::new(header, le, mode, &data[..n]);
-            asked.step_by_paper(tally, available, Ok(answer));
+            Step { asked, available }.written(tally, PAPER, &Ok(answer.into()), 0);
         }
     }
     for mode in 0..3 {
-        let asked = |n| Asked::new(HEADER, 1, mode, &data[..n]);
-        asked(0).step_by_paper(tally, 3, Err(14));
-        asked(0).step_by_paper(tally, 4, Ok([0; 6]));
-        asked(1).step_by_paper(tally, 4, Err(14));
+        for (n, available, answer) in [(0, 3, Err(14)), (0, 4, Ok([0; 6])), (1, 4, Err(14))] {
+            let asked = Asked::new(HEADER, 1, mode, &data[..n]);
+            let answer = answer.map(|numbers| numbers.into());
+            Step { asked, available }.written(tally, PAPER, &answer, 0);
+        }
     }
 }
 
@@ -103,7 +107,7 @@ pub fn pieces(tally: &mut Tally) {
         };
         let input = || format!("{n} data bytes, le {le}, buffer of {available} bytes");
         let ours = sizes(chain, &data[..n]);
-        tally.compare(PIECES, &[], input, &outcome(demanded), &outcome(ours));
+        tally.compare((PIECES, &[]), input, &outcome(demanded), &outcome(ours));
     };
     for (le, n, available, sizes) in CUTS {
         held(le, n, available, Ok(sizes.to_vec()));

@@ -1,48 +1,15 @@
-//! Cutting as the Rust does it. `opened` shows the fields of a part and what is left of a chain; `original` writes the pieces.
+//! Cutting as the Rust does it. `opened` shows the fields of a part and what is left of a chain.
 
-use gorvisclen::{
-    BUFFER_LEN, EXPECTED_MAX, EXTENDED_SUPPORTED, PIECE_NUMBERS, SHORT_ONLY, SPLIT_NUMBERS,
-};
+use gorvisclen::{BUFFER_LEN, PIECE_NUMBERS, SHORT_ONLY, SPLIT_NUMBERS};
 use opened::command::class::Class;
-use opened::command::{self, fields, left, short_only, CommandBuilder, ExpectedLen};
+use opened::command::{chain, fields, left, ChainedCommandIterator, CommandBuilder};
 
-use crate::builder::Asked;
+use crate::builder::{bytes_of, expected, Asked};
 use crate::panics::unless_it_panics;
-
-fn number(le: ExpectedLen) -> u64 {
-    match le {
-        ExpectedLen::Ne(n) => n.into(),
-        ExpectedLen::Max => EXPECTED_MAX.into(),
-    }
-}
-
-/// The builder; 3 where the Rust has no such class, 13 where it panics.
-fn made<'a>(asked: &Asked<'a>) -> Result<CommandBuilder<&'a [u8]>, u8> {
-    let [class, instruction, p1, p2] = asked.header;
-    let class = Class::try_from(class).map_err(|_| 3)?;
-    let le = u16::try_from(asked.le).map_or(ExpectedLen::Max, ExpectedLen::Ne);
-    let new = || match asked.mode {
-        SHORT_ONLY => short_only(class, instruction.into(), [p1, p2], asked.data, le),
-        mode => {
-            let made = CommandBuilder::new(class, instruction.into(), p1, p2, asked.data, le);
-            match mode {
-                EXTENDED_SUPPORTED => made,
-                _ => made.force_extended(),
-            }
-        }
-    };
-    if asked.data.len() <= 65_535 {
-        return Ok(new());
-    }
-    match unless_it_panics(new) {
-        None => Err(13),
-        Some(_) => panic!("no panic of the Rust's: {}", asked.shown()),
-    }
-}
 
 /// One step: the numbers that `gorvisclen::should_split` writes; 14 where the Rust panics.
 pub fn step(asked: &Asked, available: usize) -> Result<[u64; SPLIT_NUMBERS], u8> {
-    let builder = made(asked)?;
+    let builder = asked.made()?;
     let parts = unless_it_panics(|| builder.should_split(available)).ok_or(14)?;
     let Some((now, later)) = parts else {
         return Ok([0; SPLIT_NUMBERS]);
@@ -51,56 +18,31 @@ pub fn step(asked: &Asked, available: usize) -> Result<[u64; SPLIT_NUMBERS], u8>
     let ([class, now_rest @ ..], le, now_mode) = fields(&now);
     let ([kept, later_rest @ ..], kept_le, later_mode) = fields(&later);
     // What is not told: each part is a part of these very data, and has what else the command has.
-    let (_, _, mode) = fields(&builder);
+    let ([_, rest @ ..], _, mode) = fields(&builder);
     let whole = now.data().as_ptr() == all.as_ptr()
         && later.data().as_ptr() == all[n..].as_ptr()
         && n + later.data().len() == all.len();
-    let same = [now_rest, later_rest] == [[asked.header[1], asked.header[2], asked.header[3]]; 2];
+    let same = [now_rest, later_rest] == [rest; 2] && [now_mode, later_mode] == [mode; 2];
     assert!(
-        whole && same && [now_mode, later_mode] == [mode; 2],
-        "the Rust's parts are not what is told: {}",
-        asked.shown()
+        whole && same,
+        "the Rust's parts are not what is told: {asked:?}"
     );
-    let classes = [class, kept].map(u64::from);
-    Ok([
-        1,
-        n as u64,
-        classes[0],
-        number(le),
-        classes[1],
-        number(kept_le),
-    ])
+    let [class, kept] = [class, kept].map(u64::from);
+    Ok([1, n as u64, class, expected(le), kept, expected(kept_le)])
 }
 
-/// The two parts of a step as `original` writes them, in the modes in which it makes such a builder.
+/// The two parts of a step as the Rust writes them, in the modes in which it makes such a builder.
 pub fn parts(asked: &Asked, available: usize) -> Option<[Vec<u8>; 2]> {
-    use original::command::{class::Class, CommandBuilder, ExpectedLen};
-    let [class, instruction, p1, p2] = asked.header;
-    let class = Class::try_from(class).ok()?;
-    let le = u16::try_from(asked.le).map_or(ExpectedLen::Max, ExpectedLen::Ne);
-    let made = CommandBuilder::new(class, instruction.into(), p1, p2, asked.data, le);
-    let made = match asked.mode {
-        SHORT_ONLY => return None,
-        EXTENDED_SUPPORTED => made,
-        _ => made.force_extended(),
-    };
-    let (now, later) = made.should_split(available)?;
-    Some([written(&now), written(&later)])
+    if asked.mode == SHORT_ONLY {
+        return None;
+    }
+    let (now, later) = asked.made().ok()?.should_split(available)?;
+    Some([bytes_of(&now), bytes_of(&later)])
 }
 
-/// The bytes of a command of `original`.
-fn written(builder: &original::command::CommandBuilder<&[u8]>) -> Vec<u8> {
-    let mut bytes = vec![0; builder.required_len()];
-    let mut rest = &mut bytes[..];
-    builder.serialize_into(&mut rest).unwrap();
-    assert!(rest.is_empty());
-    bytes
-}
-
-/// A chain of the Rust: the same one in `original`, which writes its pieces, and in `opened`, which shows what is left.
+/// A chain of the Rust, of so many data bytes.
 pub struct Chain<'a> {
-    bytes: original::command::ChainedCommandIterator<'a>,
-    state: command::ChainedCommandIterator<'a>,
+    state: ChainedCommandIterator<'a>,
     len: usize,
 }
 
@@ -111,82 +53,46 @@ impl<'a> Chain<'a> {
     /// As a host makes it: 3 where the Rust has no such class, 13 where it panics.
     pub fn new(header: [u8; 4], data: &'a [u8], le: u16, available: usize) -> Result<Self, u8> {
         let [class, instruction, p1, p2] = header;
-        let opened_class = Class::try_from(class).map_err(|_| 3)?;
-        let class = original::command::class::Class::try_from(class).map_err(|_| 3)?;
-        // The default buffer is not named to `original`.
+        let (class, instruction) = (Class::try_from(class).map_err(|_| 3)?, instruction.into());
+        // The default buffer is not named.
         let buffer_len = (available != BUFFER_LEN).then_some(available);
-        let new = || Chain {
-            bytes: original::command::CommandBuilder::new_non_extended(
-                class,
-                instruction.into(),
-                p1,
-                p2,
-                data,
-                le,
-                buffer_len,
-            ),
-            state: CommandBuilder::new_non_extended(
-                opened_class,
-                instruction.into(),
-                p1,
-                p2,
-                data,
-                le,
-                Some(available),
-            ),
-            len: data.len(),
+        let len = data.len();
+        let new =
+            || CommandBuilder::new_non_extended(class, instruction, p1, p2, data, le, buffer_len);
+        let state = match len {
+            0..=65_535 => new(),
+            _ => unless_it_panics(new).map_or(Err(13), |_| panic!("no panic for {len} bytes"))?,
         };
-        if data.len() <= 65_535 {
-            return Ok(new());
-        }
-        match unless_it_panics(new) {
-            None => Err(13),
-            Some(_) => panic!("no panic of the Rust's for {} data bytes", data.len()),
-        }
+        Ok(Chain { state, len })
     }
 
     /// The next piece; none is left whenever asked after the last one.
     pub fn next(&mut self) -> Option<Piece> {
-        let piece = self.bytes.next();
-        let seen = self.state.next();
-        let (piece, seen) = piece.zip(seen)?;
-        assert_eq!(piece.data(), seen.data());
-        let bytes = written(&piece);
-        Some((bytes.clone(), told(&bytes, left(&self.state), self.len)))
+        let bytes = bytes_of(&self.state.next()?);
+        let n = bytes.len() as u64;
+        let numbers = match left(&self.state) {
+            None => [1, n, 0, 0, 0],
+            Some(rest) => {
+                let (_, le, _) = fields(&rest);
+                let place = self.len - rest.data().len();
+                [1, n, 1, place as u64, expected(le)]
+            }
+        };
+        Some((bytes, numbers))
     }
-}
 
-/// The numbers of a piece of these bytes, with what is left of `len` data bytes.
-fn told(bytes: &[u8], left: Option<CommandBuilder<&[u8]>>, len: usize) -> [u64; PIECE_NUMBERS] {
-    let n = bytes.len() as u64;
-    match left {
-        None => [1, n, 0, 0, 0],
-        Some(rest) => {
-            let (_, le, _) = fields(&rest);
-            [1, n, 1, (len - rest.data().len()) as u64, number(le)]
-        }
+    /// A chain in any state: it has come to a place of the data, and expects `le`.
+    pub fn at(
+        header: [u8; 4],
+        data: &'a [u8],
+        (le, place): (u16, usize),
+        available: usize,
+    ) -> Result<Self, u8> {
+        // The class, and the length of all the data.
+        let Chain { len, .. } = Chain::new(header, data, le, available)?;
+        let rest = &data[place.min(len)..];
+        let builder = Asked::new(header, le.into(), SHORT_ONLY, rest).made()?;
+        let state = chain(builder, available);
+        Ok(Chain { state, len })
     }
-}
-
-/// The next piece of a chain in any state: it has come to a place of the data, and expects `le`.
-pub fn next_at(
-    header: [u8; 4],
-    data: &[u8],
-    (le, place): (u16, usize),
-    available: usize,
-) -> Result<Piece, u8> {
-    // The class, and the length of all the data.
-    Chain::new(header, data, le, available)?;
-    let rest = Asked {
-        header,
-        le: le.into(),
-        mode: SHORT_ONLY,
-        data: &data[place.min(data.len())..],
-    };
-    let mut chain = command::chain(made(&rest)?, available);
-    let piece = chain.next().unwrap();
-    let mut bytes = vec![0; piece.required_len()];
-    piece.serialize_into(&mut &mut bytes[..]).unwrap();
-    let numbers = told(&bytes, left(&chain), data.len());
-    Ok((bytes, numbers))
 }

@@ -2,9 +2,10 @@
 
 use gorvisclen::{CRATE_READING, STANDARD_READING};
 
-use super::front::{Front, LEN, OBJECT, TAG};
+use super::front::{Front, Len, Object, Tag};
 use super::lookup::Lookup;
 use super::records::length_forms;
+use crate::call::Call;
 use crate::inputs::Inputs;
 use crate::tally::Tally;
 
@@ -33,10 +34,12 @@ struct Written<'a> {
 
 impl Written<'_> {
     /// The front of some bytes, and what both readings answer.
-    fn front<const N: usize>(&mut self, of: &Front<N>, bytes: &str, answers: Both<[u64; N]>) {
+    fn front<const N: usize>(&mut self, of: impl Front<N>, bytes: &str, answers: Both<[u64; N]>) {
         let bytes = unhex(bytes);
         for (reading, answer) in READINGS.into_iter().zip(answers) {
-            of.written(self.tally, self.operation, (reading, &bytes), answer);
+            let answer = answer.map(|numbers| numbers.into());
+            of.of(reading, &bytes)
+                .written(self.tally, self.operation, &answer, 0);
         }
     }
 
@@ -45,12 +48,7 @@ impl Written<'_> {
         // A copy can be written to, so that a call that does is reported.
         let path = &path.to_vec();
         for (reading, answer) in READINGS.into_iter().zip(answers) {
-            let lookup = Lookup {
-                reading,
-                record,
-                path,
-            };
-            lookup.written(self.tally, self.operation, answer);
+            Lookup::of(reading, record, path).written(self.tally, self.operation, answer);
         }
     }
 
@@ -65,20 +63,20 @@ pub fn p7_p8_p9(tally: &mut Tally) {
     let operation = EDGES;
     let mut written = Written { tally, operation };
     // P7: the crate's reading takes the tag 5F 1E.
-    written.front(&TAG, "5F 1E", [Ok([0x5F1E, 2]), Err(12)]);
-    written.front(&OBJECT, "5F 1E 01 AA", [Ok([0x5F1E, 3, 1]), Err(12)]);
+    written.front(Tag, "5F 1E", [Ok([0x5F1E, 2]), Err(12)]);
+    written.front(Object, "5F 1E 01 AA", [Ok([0x5F1E, 3, 1]), Err(12)]);
     let record = unhex("5F 1E 01 AA");
     written.found(&record, &[0x5F1E], [Ok((3, &[0xAA])), Err(12)]);
     written.found(&record, &[0x5F1F], [Err(11), Err(12)]);
     // P8: no reading takes the tag 5F 80.
     for bytes in ["5F 80", "5F 80 01", "5F 80 01 AA"] {
-        written.front(&TAG, bytes, [Err(12), Err(12)]);
-        written.front(&OBJECT, bytes, [Err(12), Err(12)]);
+        written.front(Tag, bytes, [Err(12), Err(12)]);
+        written.front(Object, bytes, [Err(12), Err(12)]);
         written.both_found(&unhex(bytes), &[0x5F80], Err(12));
     }
     // P9: no reading takes a length that starts with 83.
-    written.front(&LEN, "83 00 00 01", [Err(12), Err(12)]);
-    written.front(&OBJECT, "C1 83 00 00 01 AA", [Err(12), Err(12)]);
+    written.front(Len, "83 00 00 01", [Err(12), Err(12)]);
+    written.front(Object, "C1 83 00 00 01 AA", [Err(12), Err(12)]);
     written.both_found(&unhex("C1 83 00 00 01 AA"), &[0xC1], Err(12));
 }
 
@@ -86,46 +84,46 @@ pub fn p7_p8_p9(tally: &mut Tally) {
 pub fn tags(tally: &mut Tally) {
     let operation = RULES;
     let mut written = Written { tally, operation };
-    written.front(&TAG, "", [Err(11), Err(11)]);
-    written.front(&TAG, "00", [Ok([0x00, 1]), Ok([0x00, 1])]);
-    written.front(&TAG, "5E 1F", [Ok([0x5E, 1]), Ok([0x5E, 1])]);
-    written.front(&TAG, "5F", [Err(12), Err(12)]);
-    written.front(&TAG, "5F 1D", [Err(12), Err(12)]);
-    written.front(&TAG, "5F 1F", [Ok([0x5F1F, 2]), Ok([0x5F1F, 2])]);
-    written.front(&TAG, "5F 24 03", [Ok([0x5F24, 2]), Ok([0x5F24, 2])]);
-    written.front(&TAG, "5F 7F", [Ok([0x5F7F, 2]), Ok([0x5F7F, 2])]);
-    written.front(&TAG, "5F 81", [Err(12), Err(12)]);
-    written.front(&TAG, "DF 81 01", [Ok([0xDF8101, 3]), Ok([0xDF8101, 3])]);
-    written.front(&TAG, "DF FE 7F", [Ok([0xDFFE7F, 3]), Ok([0xDFFE7F, 3])]);
-    written.front(&TAG, "DF 81 80", [Ok([0xDF8180, 3]), Err(12)]);
-    written.front(&TAG, "DF 81 81", [Err(12), Err(12)]);
-    written.front(&TAG, "DF 81 FE", [Err(12), Err(12)]);
-    written.front(&TAG, "DF 81 FF", [Ok([0xDF81FF, 3]), Err(12)]);
-    written.front(&TAG, "5F FF", [Ok([0x5FFF, 2]), Err(12)]);
-    written.front(&TAG, "5F FF 01", [Ok([0x5FFF, 2]), Ok([0x5FFF01, 3])]);
+    written.front(Tag, "", [Err(11), Err(11)]);
+    written.front(Tag, "00", [Ok([0x00, 1]), Ok([0x00, 1])]);
+    written.front(Tag, "5E 1F", [Ok([0x5E, 1]), Ok([0x5E, 1])]);
+    written.front(Tag, "5F", [Err(12), Err(12)]);
+    written.front(Tag, "5F 1D", [Err(12), Err(12)]);
+    written.front(Tag, "5F 1F", [Ok([0x5F1F, 2]), Ok([0x5F1F, 2])]);
+    written.front(Tag, "5F 24 03", [Ok([0x5F24, 2]), Ok([0x5F24, 2])]);
+    written.front(Tag, "5F 7F", [Ok([0x5F7F, 2]), Ok([0x5F7F, 2])]);
+    written.front(Tag, "5F 81", [Err(12), Err(12)]);
+    written.front(Tag, "DF 81 01", [Ok([0xDF8101, 3]), Ok([0xDF8101, 3])]);
+    written.front(Tag, "DF FE 7F", [Ok([0xDFFE7F, 3]), Ok([0xDFFE7F, 3])]);
+    written.front(Tag, "DF 81 80", [Ok([0xDF8180, 3]), Err(12)]);
+    written.front(Tag, "DF 81 81", [Err(12), Err(12)]);
+    written.front(Tag, "DF 81 FE", [Err(12), Err(12)]);
+    written.front(Tag, "DF 81 FF", [Ok([0xDF81FF, 3]), Err(12)]);
+    written.front(Tag, "5F FF", [Ok([0x5FFF, 2]), Err(12)]);
+    written.front(Tag, "5F FF 01", [Ok([0x5FFF, 2]), Ok([0x5FFF01, 3])]);
 }
 
 /// Lengths of each form, and objects.
 pub fn lengths_and_objects(tally: &mut Tally) {
     let operation = RULES;
     let mut written = Written { tally, operation };
-    written.front(&LEN, "", [Err(12), Err(12)]);
-    written.front(&LEN, "00", [Ok([0, 1]); 2]);
-    written.front(&LEN, "7F 01", [Ok([127, 1]); 2]);
-    written.front(&LEN, "80 00", [Err(12), Err(12)]);
-    written.front(&LEN, "81", [Err(12), Err(12)]);
-    written.front(&LEN, "81 05", [Ok([5, 2]); 2]);
-    written.front(&LEN, "82 05", [Err(12), Err(12)]);
-    written.front(&LEN, "82 00 05", [Ok([5, 3]); 2]);
-    written.front(&LEN, "82 FF FF 00", [Ok([65_535, 3]); 2]);
-    written.front(&LEN, "FF 00 00", [Err(12), Err(12)]);
+    written.front(Len, "", [Err(12), Err(12)]);
+    written.front(Len, "00", [Ok([0, 1]); 2]);
+    written.front(Len, "7F 01", [Ok([127, 1]); 2]);
+    written.front(Len, "80 00", [Err(12), Err(12)]);
+    written.front(Len, "81", [Err(12), Err(12)]);
+    written.front(Len, "81 05", [Ok([5, 2]); 2]);
+    written.front(Len, "82 05", [Err(12), Err(12)]);
+    written.front(Len, "82 00 05", [Ok([5, 3]); 2]);
+    written.front(Len, "82 FF FF 00", [Ok([65_535, 3]); 2]);
+    written.front(Len, "FF 00 00", [Err(12), Err(12)]);
 
-    written.front(&OBJECT, "", [Err(11), Err(11)]);
-    written.front(&OBJECT, "5F 24 03 26 10 09", [Ok([0x5F24, 3, 3]); 2]);
-    written.front(&OBJECT, "5F 24 03 26 10", [Err(12), Err(12)]);
-    written.front(&OBJECT, "5F 24", [Err(12), Err(12)]);
-    written.front(&OBJECT, "00 00 00", [Ok([0x00, 2, 0]); 2]);
-    written.front(&OBJECT, "5A 82 00 01 AA BB", [Ok([0x5A, 4, 1]); 2]);
+    written.front(Object, "", [Err(11), Err(11)]);
+    written.front(Object, "5F 24 03 26 10 09", [Ok([0x5F24, 3, 3]); 2]);
+    written.front(Object, "5F 24 03 26 10", [Err(12), Err(12)]);
+    written.front(Object, "5F 24", [Err(12), Err(12)]);
+    written.front(Object, "00 00 00", [Ok([0x00, 2, 0]); 2]);
+    written.front(Object, "5A 82 00 01 AA BB", [Ok([0x5A, 4, 1]); 2]);
 }
 
 /// The sentences on the lookup, each with a record of its own; both readings find the same.

@@ -42,7 +42,7 @@ pub fn tag(reading: u8, bytes: &[u8]) -> Result<[u64; 2], u8> {
 }
 
 /// A length, and how many bytes it takes: the same in both readings.
-pub fn len(_reading: u8, bytes: &[u8]) -> Result<[u64; 2], u8> {
+pub fn len(bytes: &[u8]) -> Result<[u64; 2], u8> {
     match *bytes {
         [l @ 0x00..=0x7F, ..] => Ok([l.into(), 1]),
         [0x81, l, ..] => Ok([l.into(), 2]),
@@ -54,7 +54,7 @@ pub fn len(_reading: u8, bytes: &[u8]) -> Result<[u64; 2], u8> {
 /// An object: its tag, the place of its value, the value's length.
 pub fn object(reading: u8, bytes: &[u8]) -> Result<[u64; 3], u8> {
     let [tag, tag_len] = tag(reading, bytes)?;
-    let [len, len_len] = len(reading, &bytes[tag_len as usize..])?;
+    let [len, len_len] = len(&bytes[tag_len as usize..])?;
     let place = tag_len + len_len;
     if place + len > bytes.len() as u64 {
         return Err(UNREADABLE);

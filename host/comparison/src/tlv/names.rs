@@ -2,6 +2,8 @@
 
 use gorvisclen::CRATE_READING;
 
+use crate::call;
+
 /// The names of an operation: where the Rust reads, where it says `None`, and in the standard reading.
 pub struct Names {
     pub some: &'static str,
@@ -55,10 +57,10 @@ pub const ABOVE_VALUE: &str =
 
 impl Names {
     /// The operation that an answer counts for, and those that its numbers do.
-    pub fn of<T>(&self, reading: u8, answer: &Result<T, u8>) -> (&'static str, &[&'static str]) {
-        match (reading, answer) {
-            (CRATE_READING, Ok(_)) => (self.some, self.numbers),
-            (CRATE_READING, Err(_)) => (self.none, &[]),
+    pub fn of(&self, reading: u8, accepted: bool) -> call::Names {
+        match (reading, accepted) {
+            (CRATE_READING, true) => (self.some, self.numbers),
+            (CRATE_READING, false) => (self.none, &[]),
             _ => (self.standard, &[]),
         }
     }

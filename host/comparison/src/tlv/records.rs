@@ -3,65 +3,22 @@
 use crate::inputs::Inputs;
 
 /// Tags that both readings take, of one, two and three bytes, and those next to what is refused.
-const TAGS: [&[u8]; 24] = [
-    &[0x00],
-    &[0x5A],
-    &[0xC1],
-    &[0x24],
-    &[0x70],
-    &[0x6F],
-    &[0xE1],
-    &[0x5F, 0x24],
-    &[0x5F, 0x25],
-    &[0x5F, 0x1F],
-    &[0x5F, 0x7F],
-    &[0x1F, 0x20],
-    &[0x9F, 0x36],
-    &[0x7F, 0x21],
-    &[0xBF, 0x2C],
-    &[0xFF, 0x1F],
-    &[0xDF, 0x81, 0x01],
-    &[0x7F, 0x81, 0x00],
-    &[0x1F, 0xFE, 0x7F],
-    &[0x5F, 0x90, 0x24],
-    &[0xFF, 0x81, 0x7F],
-    &[0x3F, 0xC0, 0x1F],
-    &[0xDF, 0xA4, 0x5F],
-    &[0x9F, 0x81, 0x24],
+const TAGS: [u32; 24] = [
+    0x00, 0x5A, 0xC1, 0x24, 0x70, 0x6F, 0xE1, 0x5F24, 0x5F25, 0x5F1F, 0x5F7F, 0x1F20, 0x9F36,
+    0x7F21, 0xBF2C, 0xFF1F, 0xDF8101, 0x7F8100, 0x1FFE7F, 0x5F9024, 0xFF817F, 0x3FC01F, 0xDFA45F,
+    0x9F8124,
 ];
 
 /// Tags that one reading takes, or neither; the readings part on their bytes.
-const PARTING: [&[u8]; 12] = [
-    &[0x5F, 0x1E],
-    &[0xFF, 0xFF],
-    &[0x1F, 0xFF],
-    &[0x5F, 0xFF, 0x24],
-    &[0xFF, 0x81, 0x80],
-    &[0xDF, 0xFE, 0xFF],
-    &[0x5F, 0x80],
-    &[0x5F, 0x1D],
-    &[0x1F, 0x00],
-    &[0x7F, 0x81, 0x81],
-    &[0x9F, 0x90, 0xFE],
-    &[0xFF, 0x80, 0x01],
+const PARTING: [u32; 12] = [
+    0x5F1E, 0xFFFF, 0x1FFF, 0x5FFF24, 0xFF8180, 0xDFFEFF, 0x5F80, 0x5F1D, 0x1F00, 0x7F8181,
+    0x9F90FE, 0xFF8001,
 ];
 
 /// Numbers that are no tag in either reading.
 const NO_TAGS: [u32; 14] = [
-    0x1F,
-    0x5F,
-    0xFF,
-    0x0124,
-    0x5A00,
-    0x5F1D,
-    0x5F80,
-    0x5F_8181,
-    0x01_5F24,
-    0x5F_2400,
-    0x0100_0000,
-    0x0100_5F24,
-    0x5F24_0000,
-    0xFFFF_FFFF,
+    0x1F, 0x5F, 0xFF, 0x0124, 0x5A00, 0x5F1D, 0x5F80, 0x5F8181, 0x015F24, 0x5F2400, 0x01000000,
+    0x01005F24, 0x5F240000, 0xFFFFFFFF,
 ];
 
 /// Bytes, and the paths to the objects that they were made of. In damaged bytes these lead anywhere.
@@ -71,15 +28,18 @@ pub struct Record {
     pub paths: Vec<Vec<u32>>,
 }
 
-fn number(tag: &[u8]) -> u32 {
-    tag.iter().fold(0, |n, &byte| n * 256 + u32::from(byte))
+/// The bytes of a tag: its number without the zero bytes in front, save the last.
+pub fn bytes_of(tag: u32) -> Vec<u8> {
+    let bytes = tag.to_be_bytes();
+    let zeros = bytes[..3].iter().take_while(|&&byte| byte == 0).count();
+    bytes[zeros..].to_vec()
 }
 
-fn some_tag(inputs: &mut Inputs) -> &'static [u8] {
+fn some_tag(inputs: &mut Inputs) -> u32 {
     match inputs.below(24) {
-        0 => PARTING[inputs.below(PARTING.len())],
+        0 => inputs.one_of(&PARTING),
         1..=8 => TAGS[7 + inputs.below(2)],
-        _ => TAGS[inputs.below(TAGS.len())],
+        _ => inputs.one_of(&TAGS),
     }
 }
 
@@ -107,9 +67,9 @@ fn some_length(inputs: &mut Inputs, n: usize) -> Vec<u8> {
 fn some_value(inputs: &mut Inputs) -> Vec<u8> {
     match inputs.below(8) {
         0 | 1 => Vec::new(),
-        2 | 3 => [some_tag(inputs), &[0x03, 0x26, 0x10, 0x09]].concat(),
+        2 | 3 => [&bytes_of(some_tag(inputs))[..], &[0x03, 0x26, 0x10, 0x09]].concat(),
         4 => {
-            let n = [126, 127, 128, 129, 255, 256, 257][inputs.below(7)];
+            let n = inputs.one_of(&[126, 127, 128, 129, 255, 256, 257]);
             inputs.bytes(n)
         }
         5 => vec![0; inputs.below(6)],
@@ -122,13 +82,12 @@ fn some_value(inputs: &mut Inputs) -> Vec<u8> {
 
 impl Record {
     /// Adds an object. A value too long for a length of two bytes is cut.
-    fn add(&mut self, inputs: &mut Inputs, tag: &[u8], mut value: Record) {
+    fn add(&mut self, inputs: &mut Inputs, tag: u32, mut value: Record) {
         value.bytes.truncate(65_535);
-        self.bytes.extend_from_slice(tag);
+        self.bytes.extend(bytes_of(tag));
         let length = some_length(inputs, value.bytes.len());
         self.bytes.extend(length);
         self.bytes.extend(value.bytes);
-        let tag = number(tag);
         self.paths.push(vec![tag]);
         let inner = value.paths.into_iter();
         self.paths
@@ -167,7 +126,7 @@ pub fn some_record(inputs: &mut Inputs, depth: usize) -> Record {
 fn small_objects(inputs: &mut Inputs, len: usize) -> Record {
     let mut record = Record::default();
     while record.bytes.len() < len {
-        let tag = TAGS[inputs.below(TAGS.len() - 1)];
+        let tag = inputs.one_of(&TAGS[..TAGS.len() - 1]);
         let n = inputs.below(6);
         let bytes = inputs.bytes(n);
         let paths = Vec::new();
@@ -179,7 +138,7 @@ fn small_objects(inputs: &mut Inputs, len: usize) -> Record {
 /// A long record of small objects, the last one with a tag of its own; in it a template of the same kind, of `inner` bytes and
 /// a few more. Its paths lead to that last object, at the top and in the template.
 pub fn long_record(inputs: &mut Inputs, outer: usize, inner: usize) -> Record {
-    let (last, template) = (TAGS[TAGS.len() - 1], &[0x7F, 0x4E]);
+    let (last, template) = (TAGS[TAGS.len() - 1], 0x7F4E);
     let bytes = vec![0x26, 0x10, 0x09];
     let paths = Vec::new();
     let end = Record { bytes, paths };
@@ -188,7 +147,6 @@ pub fn long_record(inputs: &mut Inputs, outer: usize, inner: usize) -> Record {
     let mut record = small_objects(inputs, outer);
     record.add(inputs, template, inside);
     record.add(inputs, last, end);
-    let (last, template) = (number(last), number(template));
     record.paths = vec![vec![last], vec![template, last]];
     record
 }
@@ -196,9 +154,9 @@ pub fn long_record(inputs: &mut Inputs, outer: usize, inner: usize) -> Record {
 /// A number that a path may ask for: a tag, one that the readings part on, or none at all.
 fn some_number(inputs: &mut Inputs) -> u32 {
     match inputs.below(4) {
-        0 => NO_TAGS[inputs.below(NO_TAGS.len())],
-        1 => number(PARTING[inputs.below(PARTING.len())]),
-        _ => number(some_tag(inputs)),
+        0 => inputs.one_of(&NO_TAGS),
+        1 => inputs.one_of(&PARTING),
+        _ => some_tag(inputs),
     }
 }
 

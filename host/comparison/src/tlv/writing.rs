@@ -1,15 +1,16 @@
-//! Objects written: run on both sides and compared, with all bytes of the buffer.
+//! Objects written into buffers.
 
-use gorvisclen::{Refused, STANDARD_READING};
+use gorvisclen::{Reply, STANDARD_READING};
 use original::command::{BufferFull, DataSource, DataStream};
 use original::tlv::{Tag, Tlv};
 use original::Data;
 
-use super::front::OBJECT;
+use super::front::{self, Front};
 use super::lookup::Lookup;
 use super::records::length_forms;
+use crate::call::{Answer, Call, Left, Names};
 use crate::inputs::Inputs;
-use crate::lent::{bytes, hex, numbers, places_past, Outcome};
+use crate::lent::{places_past, Hex};
 use crate::tally::Tally;
 
 const WRITE: &str = "Tlv::to_writer";
@@ -19,40 +20,74 @@ const READ_BACK: &str =
     "Tlv::to_writer, then the standard reading (held to a rule: tag and value come back)";
 
 /// Tags of each size, with zero bytes in front, inside and behind; some that no reading takes.
-const TAGS: [[u8; 3]; 22] = [
-    [0x00, 0x00, 0x00],
-    [0x00, 0x00, 0x01],
-    [0x00, 0x00, 0x5A],
-    [0x00, 0x00, 0x1F],
-    [0x00, 0x00, 0xFF],
-    [0x00, 0x5F, 0x24],
-    [0x00, 0x5F, 0x00],
-    [0x00, 0x1F, 0x00],
-    [0x00, 0x01, 0x00],
-    [0x00, 0xFF, 0xFF],
-    [0x00, 0x5F, 0x1E],
-    [0x00, 0x5F, 0x80],
-    [0x5F, 0x24, 0x00],
-    [0x5F, 0x00, 0x24],
-    [0x5F, 0x00, 0x00],
-    [0x01, 0x00, 0x00],
-    [0x7F, 0x81, 0x00],
-    [0xDF, 0x81, 0x01],
-    [0x1F, 0xFF, 0x7F],
-    [0x1F, 0x00, 0x01],
-    [0x80, 0x80, 0x80],
-    [0xFF, 0xFF, 0xFF],
+const TAGS: [u32; 22] = [
+    0x00, 0x01, 0x5A, 0x1F, 0xFF, 0x5F24, 0x5F00, 0x1F00, 0x0100, 0xFFFF, 0x5F1E, 0x5F80, 0x5F2400,
+    0x5F0024, 0x5F0000, 0x010000, 0x7F8100, 0xDF8101, 0x1FFF7F, 0x1F0001, 0x808080, 0xFFFFFF,
 ];
 
-/// One object to write.
-struct Object<'a> {
-    tag: [u8; 3],
-    value: &'a [u8],
+/// The three bytes of a tag, with zero bytes in front.
+pub fn three_bytes(tag: u32) -> [u8; 3] {
+    let [_, bytes @ ..] = tag.to_be_bytes();
+    bytes
 }
 
-impl Object<'_> {
-    fn rust(&self) -> Tlv<&[u8]> {
-        Tlv::new(Tag::from(self.tag), self.value)
+/// One object to write.
+#[derive(Clone, Copy, Debug)]
+pub struct Object<'a> {
+    pub tag: [u8; 3],
+    pub value: Hex<'a, u8>,
+}
+
+/// An object written into a buffer from a place.
+#[derive(Debug)]
+pub struct Put<'a> {
+    pub object: Object<'a>,
+    pub at: usize,
+}
+
+impl Call<1> for Put<'_> {
+    fn names(&self, to_len: usize, _: &Answer<1>) -> Names {
+        match self.object.value.len() {
+            0..=65_535 if self.at > to_len => (PAST, &[]),
+            0..=65_535 => (WRITE, &[]),
+            _ => (TOO_LONG, &[]),
+        }
+    }
+
+    fn read(&self) -> Vec<u8> {
+        [&self.object.tag, self.object.value.0].concat()
+    }
+
+    fn ours(&self, to: &mut [u8], out: &mut [u64]) -> Reply {
+        let Object { tag, value } = self.object;
+        gorvisclen::put_data_object(tag, &value, to, self.at, out)
+    }
+
+    /// The Rust writes to as much as there is behind the place.
+    fn rust(&self, to_len: usize) -> Answer<'_, 1> {
+        let object = self.object.rust();
+        if self.object.too_long() {
+            return Err(19);
+        }
+        let mut written = vec![0; to_len.checked_sub(self.at).ok_or(16)?];
+        let mut rest = &mut written[..];
+        object.to_writer(&mut rest).map_err(|_| 16)?;
+        let n = to_len - self.at - rest.len();
+        assert_eq!(n, DataSource::len(&object));
+        assert!(!object.is_empty());
+        written.truncate(n);
+        Ok(Left::written([n as u64], self.at, written))
+    }
+}
+
+impl<'a> Object<'a> {
+    pub fn of(tag: [u8; 3], value: &'a [u8]) -> Self {
+        let value = Hex(value);
+        Object { tag, value }
+    }
+
+    pub fn rust(&self) -> Tlv<&'a [u8]> {
+        Tlv::new(Tag::from(self.tag), self.value.0)
     }
 
     /// Whether the Rust cannot write a value so long. It has then written the tag, here to a room for no more than that.
@@ -66,61 +101,9 @@ impl Object<'_> {
         failed
     }
 
-    /// What writing it counts for.
-    fn operation(&self, buffer_len: usize, at: usize) -> &'static str {
-        if self.value.len() > 65_535 {
-            TOO_LONG
-        } else if at > buffer_len {
-            PAST
-        } else {
-            WRITE
-        }
-    }
-
-    /// Writes as the Rust does to what `buffer` has from the place on, and says how many bytes; a refusal writes nothing here.
-    fn write_by_rust(&self, buffer: &mut [u8], at: usize) -> Result<u64, u8> {
-        if self.too_long() {
-            return Err(19);
-        }
-        let part = buffer.get_mut(at..).ok_or(16)?;
-        let mut copy = part.to_vec();
-        let mut rest = &mut copy[..];
-        let written = self.rust().to_writer(&mut rest);
-        written.map_err(|_| 16)?;
-        let n = part.len() - rest.len();
-        assert_eq!(n, DataSource::len(&self.rust()));
-        assert!(!self.rust().is_empty());
-        part.copy_from_slice(&copy);
-        Ok(n as u64)
-    }
-
     /// Compares the writing into a buffer of a length, from a place.
-    fn write(&self, tally: &mut Tally, buffer_len: usize, at: usize, len: usize) {
-        let read = [&self.tag, self.value];
-        let (mut buffer, mut out) = (bytes(buffer_len), numbers(len));
-        let reply = match len {
-            // 19 comes before 16 here too.
-            0 if self.too_long() => Err(19),
-            0 => Err(16),
-            _ => self.write_by_rust(buffer.part(), at),
-        };
-        let reply = reply.map(|n| out.part()[0] = n).map_err(Refused);
-        let theirs = Outcome::new(reply, out, buffer).reading(&read);
-
-        let (mut buffer, mut out) = (bytes(buffer_len), numbers(len));
-        let reply =
-            gorvisclen::put_data_object(self.tag, self.value, buffer.part(), at, out.part());
-        let ours = Outcome::new(reply, out, buffer).reading(&read);
-
-        let input = || {
-            format!(
-                "tag {}, value {}, buffer of {buffer_len} bytes, from {at}, out of {len} numbers",
-                hex(&self.tag),
-                hex(self.value)
-            )
-        };
-        let operation = self.operation(buffer_len, at);
-        tally.compare(operation, &[], input, &theirs, &ours);
+    fn write(self, tally: &mut Tally, buffer_len: usize, at: usize, len: usize) {
+        Put { object: self, at }.compare(tally, buffer_len, len);
     }
 
     /// Buffers that it fits exactly from a place, that are a byte short and a byte longer; and places around the end.
@@ -143,7 +126,7 @@ fn every_place(tally: &mut Tally, inputs: &mut Inputs) {
     for tag in TAGS {
         for n in [0, 1, 2, 5] {
             let value = &inputs.bytes(n);
-            let object = Object { tag, value };
+            let object = Object::of(three_bytes(tag), value);
             for buffer_len in 0..=12 {
                 for at in (0..=buffer_len + 3).chain([usize::MAX - 1, usize::MAX]) {
                     for len in 0..=2 {
@@ -163,15 +146,13 @@ fn every_boundary(tally: &mut Tally, inputs: &mut Inputs) {
     for tag in TAGS {
         for n in short {
             for before in [0, 1, 7] {
-                let value = &row[..n];
-                Object { tag, value }.around_the_end(tally, before);
+                Object::of(three_bytes(tag), &row[..n]).around_the_end(tally, before);
             }
         }
     }
     for tag in [TAGS[2], TAGS[5], TAGS[16]] {
         for n in long {
-            let value = &row[..n];
-            let object = Object { tag, value };
+            let object = Object::of(three_bytes(tag), &row[..n]);
             object.around_the_end(tally, inputs.below(3));
             object.around_the_end(tally, 66_000);
             // 19 comes before 16.
@@ -186,11 +167,7 @@ fn every_boundary(tally: &mut Tally, inputs: &mut Inputs) {
 fn every_place_at_a_boundary(tally: &mut Tally, inputs: &mut Inputs) {
     let row = &inputs.bytes(65_536);
     for n in [0, 127, 128, 255, 256, 65_535, 65_536] {
-        let value = &row[..n];
-        let object = Object {
-            tag: TAGS[5],
-            value,
-        };
+        let object = Object::of(three_bytes(TAGS[5]), &row[..n]);
         let need = DataSource::len(&object.rust());
         let buffers = [need + 3, need, need - 1];
         let count = if n > 256 { 1 } else { buffers.len() };
@@ -209,8 +186,7 @@ fn every_tag(tally: &mut Tally, inputs: &mut Inputs) {
         for b3 in [0x00, 0x01, 0x1F, 0x80, 0xFF] {
             let n = inputs.below(3);
             let value = &inputs.bytes(n);
-            let tag = [b1, b2, b3];
-            Object { tag, value }.write(tally, 8, inputs.below(4), 1);
+            Object::of([b1, b2, b3], value).write(tally, 8, inputs.below(4), 1);
         }
     }
 }
@@ -234,7 +210,7 @@ fn accepted() -> Vec<[u8; 3]> {
 /// One of them, written and then read in the standard reading, comes back with its value.
 fn read_back(tally: &mut Tally, inputs: &mut Inputs, tag: [u8; 3]) {
     let n = match inputs.below(64) {
-        0 => [127, 128, 255, 256][inputs.below(4)],
+        0 => inputs.one_of(&[127, 128, 255, 256]),
         _ => inputs.below(4),
     };
     let (value, at) = (&inputs.bytes(n)[..], inputs.below(3));
@@ -248,14 +224,12 @@ fn read_back(tally: &mut Tally, inputs: &mut Inputs, tag: [u8; 3]) {
         [0, b2, b3] => (u32::from_be_bytes([0, 0, b2, b3]), 2),
         [b1, b2, b3] => (u32::from_be_bytes([0, b1, b2, b3]), 3),
     };
+    let path = [number];
     let place = tag_len + length_forms(n)[0].len();
     let answer = [number.into(), place as u64, n as u64];
-    OBJECT.written(tally, READ_BACK, (STANDARD_READING, record), Ok(answer));
-    let lookup = Lookup {
-        reading: STANDARD_READING,
-        record,
-        path: &[number],
-    };
+    let object = front::Object.of(STANDARD_READING, record);
+    object.written(tally, READ_BACK, &Ok(answer.into()), 0);
+    let lookup = Lookup::of(STANDARD_READING, record, &path);
     lookup.written(tally, READ_BACK, Ok((place, value)));
 }
 
@@ -263,7 +237,7 @@ fn read_back(tally: &mut Tally, inputs: &mut Inputs, tag: [u8; 3]) {
 pub fn random(tally: &mut Tally, inputs: &mut Inputs) {
     let any = inputs.number().to_be_bytes();
     let tag = match inputs.below(4) {
-        0 => TAGS[inputs.below(TAGS.len())],
+        0 => three_bytes(inputs.one_of(&TAGS)),
         1 => [0, 0, any[2]],
         2 => [0, any[1], any[2]],
         _ => [any[0], any[1], any[2]],
@@ -275,8 +249,7 @@ pub fn random(tally: &mut Tally, inputs: &mut Inputs) {
     };
     let row = inputs.row();
     let start = inputs.below(row.len() - n + 1);
-    let value = &row[start..start + n];
-    let object = Object { tag, value };
+    let object = Object::of(tag, &row[start..start + n]);
     object.around_the_end(tally, inputs.below(9));
     let (buffer_len, at) = (inputs.below(n + 12), inputs.below(12));
     object.write(tally, buffer_len, at, inputs.below(3));

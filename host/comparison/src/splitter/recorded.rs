@@ -1,36 +1,40 @@
-//! Commands cut: single steps in every mode, and whole chains. A chain for a buffer under 10 is recorded where the Rust panics.
+//! Commands cut, recorded: single steps in every mode, and whole chains. A chain for a buffer under 10 is recorded where the Rust panics.
 
 use opened::command::class::Class;
 use opened::command::CommandBuilder;
 
-use crate::builder::{bytes, some_asked, told, Asked, EXPECTED, LENGTHS};
-use crate::file::{checksum, three, Answer, File, Text};
+use super::rust::step;
+use crate::builder::bytes_of;
+use crate::builder::recorded::{some_fields, Fields, EXPECTED, LENGTHS};
 use crate::inputs::Inputs;
 use crate::panics::unless_it_panics;
+use crate::record::{checksum, three, File, Recorded, Text};
 
-const STEP: u8 = 17;
-const CHAIN: u8 = 18;
-
-fn step(asked: &Asked, data: &[u8], available: usize) -> Answer {
-    let split = asked
-        .made(data)
-        .and_then(|builder| unless_it_panics(|| builder.should_split(available)).ok_or(14));
-    match split {
-        Err(number) => Answer::refused(number),
-        Ok(None) => Answer::accepted().byte(0),
-        Ok(Some((now, later))) => {
-            let len = now.data().len();
-            assert_eq!([now.data(), later.data()].concat(), data);
-            let answer = Answer::accepted().byte(1).number(len);
-            told(&later, told(&now, answer))
+/// Whether it is split; if so, the length of the first part's data, and the fields of both parts.
+fn add_step(file: &mut File, asked: &Fields, data: &Text, available: usize) {
+    let numbers = [&asked.numbers()[..], &three(available)].concat();
+    let [_, instruction, p1, p2] = asked.header;
+    let told = |[split, n, class, le, kept, kept_le]: [u64; 6], answer: Recorded| {
+        let fields = |answer: Recorded, (class, le): (u64, u64)| {
+            let header = [class as u8, instruction, p1, p2];
+            answer.bytes(&header).number(le as usize).byte(asked.mode)
+        };
+        match split {
+            0 => answer.byte(0),
+            _ => fields(
+                fields(answer.byte(1).number(n as usize), (class, le)),
+                (kept, kept_le),
+            ),
         }
-    }
+    };
+    let answer = Recorded::of(step(&asked.of(data), available), told);
+    file.add(17, data, &numbers, answer);
 }
 
 type Pieces<'a> = Vec<CommandBuilder<&'a [u8]>>;
 
 /// The pieces; 3 where the Rust has no such class, 13 where it panics for the data, 14 where it panics as it cuts.
-fn cut<'a>(asked: &Asked, data: &'a [u8], available: usize) -> Result<Pieces<'a>, u8> {
+fn cut<'a>(asked: &Fields, data: &'a [u8], available: usize) -> Result<Pieces<'a>, u8> {
     let [class, instruction, p1, p2] = asked.header;
     let class = Class::try_from(class).map_err(|_| 3)?;
     let (instruction, le) = (instruction.into(), asked.le as u16);
@@ -41,26 +45,14 @@ fn cut<'a>(asked: &Asked, data: &'a [u8], available: usize) -> Result<Pieces<'a>
 }
 
 /// How many the pieces are, how many bytes they take, and the checksum of each length and the bytes behind it.
-fn sums(pieces: &Pieces) -> Answer {
+fn sums(pieces: Pieces, answer: Recorded) -> Recorded {
     let (mut total, mut sum) = (0, 0);
-    for piece in pieces {
-        let bytes = bytes(piece);
+    for piece in &pieces {
+        let bytes = bytes_of(piece);
         total += bytes.len();
         sum = checksum(checksum(sum, &three(bytes.len())), &bytes);
     }
-    Answer::accepted()
-        .number(pieces.len())
-        .number(total)
-        .checksum(sum)
-}
-
-/// Nothing where the Rust cuts for a buffer under 10, which is ours to refuse.
-fn chain(asked: &Asked, data: &[u8], available: usize) -> Option<Answer> {
-    match cut(asked, data, available) {
-        Err(number) => Some(Answer::refused(number)),
-        Ok(_) if available < 10 => None,
-        Ok(pieces) => Some(sums(&pieces)),
-    }
+    answer.number(pieces.len()).number(total).checksum(sum)
 }
 
 /// A buffer around a boundary.
@@ -73,16 +65,12 @@ fn some_buffer(inputs: &mut Inputs) -> usize {
     }
 }
 
-fn add_step(file: &mut File, asked: &Asked, data: &Text, available: usize) {
+/// Nothing where the Rust cuts for a buffer under 10, which is ours to refuse.
+fn add_chain(file: &mut File, asked: &Fields, data: &Text, available: usize) {
     let numbers = [&asked.numbers()[..], &three(available)].concat();
-    let answer = step(asked, &data.bytes, available);
-    file.add(STEP, [data, &Text::none()], &numbers, answer);
-}
-
-fn add_chain(file: &mut File, asked: &Asked, data: &Text, available: usize) {
-    let numbers = [&asked.numbers()[..], &three(available)].concat();
-    if let Some(answer) = chain(asked, &data.bytes, available) {
-        file.add(CHAIN, [data, &Text::none()], &numbers, answer);
+    let pieces = cut(asked, &data.bytes, available);
+    if available >= 10 || pieces.is_err() {
+        file.add(18, data, &numbers, Recorded::of(pieces, sums));
     }
 }
 
@@ -91,14 +79,14 @@ fn steps(file: &mut File, inputs: &mut Inputs) {
         for le in EXPECTED {
             for mode in 0..3 {
                 let data = Text::some(inputs, len);
-                let asked = Asked {
+                let asked = Fields {
                     le,
                     mode,
-                    ..some_asked(inputs)
+                    ..some_fields(inputs)
                 };
                 let available = some_buffer(inputs);
                 add_step(file, &asked, &data, available);
-                if let Ok(builder) = asked.made(&data.bytes) {
+                if let Ok(builder) = asked.of(&data).made() {
                     let available = (builder.required_len() + inputs.below(3)) - 1;
                     add_step(file, &asked, &data, available);
                 }
@@ -108,7 +96,7 @@ fn steps(file: &mut File, inputs: &mut Inputs) {
     for _ in 0..100 {
         let len = inputs.below(700);
         let data = Text::some(inputs, len);
-        let (asked, available) = (some_asked(inputs), 4 + inputs.below(700));
+        let (asked, available) = (some_fields(inputs), 4 + inputs.below(700));
         add_step(file, &asked, &data, available);
     }
 }
@@ -116,10 +104,10 @@ fn steps(file: &mut File, inputs: &mut Inputs) {
 fn chains(file: &mut File, inputs: &mut Inputs) {
     let short = |inputs: &mut Inputs, le: usize| {
         let mode = 0;
-        Asked {
+        Fields {
             le,
             mode,
-            ..some_asked(inputs)
+            ..some_fields(inputs)
         }
     };
     for len in LENGTHS {

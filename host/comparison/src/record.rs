@@ -1,4 +1,10 @@
-//! The file, the strings of an input, and an answer.
+//! The file of recorded answers, whose form crates/replay/src/main.rt describes: its strings, and an answer. It is made of the Rust's
+//! answers alone, from a fixed seed.
+
+use crate::inputs::Inputs;
+
+/// What the inputs start from that are not listed.
+pub const SEED: u64 = 7816;
 
 /// So many operations there are, and so many answers at least of each and of each refusal.
 const OPERATIONS: usize = 18;
@@ -16,15 +22,15 @@ pub struct File {
 }
 
 impl File {
+    /// Adds an answer to an input of one string and some numbers.
+    pub fn add(&mut self, operation: u8, text: &Text, numbers: &[u8], answer: Recorded) {
+        self.add_both(operation, [text, &Text::none()], numbers, answer);
+    }
+
     /// Adds an answer to an input of two strings and some numbers.
-    pub fn add(
-        &mut self,
-        operation: u8,
-        [first, second]: [&Text; 2],
-        numbers: &[u8],
-        answer: Answer,
-    ) {
-        let input = [&first.written, &second.written, numbers].concat();
+    pub fn add_both(&mut self, operation: u8, texts: [&Text; 2], numbers: &[u8], answer: Recorded) {
+        let [first, second] = texts.map(|text| &text.written[..]);
+        let input = [first, second, numbers].concat();
         self.answers.push(operation);
         self.answers
             .extend(u16::try_from(input.len()).unwrap().to_be_bytes());
@@ -127,7 +133,7 @@ impl Text {
     }
 
     /// So many bytes: up to 20 of them any, more by a filling.
-    pub fn some(inputs: &mut crate::inputs::Inputs, len: usize) -> Text {
+    pub fn some(inputs: &mut Inputs, len: usize) -> Text {
         if len <= 20 {
             return Text::of(&inputs.bytes(len));
         }
@@ -152,61 +158,92 @@ pub fn checksum(before: u64, bytes: &[u8]) -> u64 {
 }
 
 /// An answer, and which refusal it has in it, 0 for none.
-pub struct Answer {
+#[derive(Default)]
+pub struct Recorded {
     bytes: Vec<u8>,
     refusal: u8,
 }
 
-impl Answer {
-    pub fn new() -> Answer {
-        Answer {
-            bytes: Vec::new(),
-            refusal: 0,
+impl Recorded {
+    pub fn refused(number: u8) -> Recorded {
+        Recorded::default().refusal(number)
+    }
+
+    pub fn accepted() -> Recorded {
+        Recorded::default().byte(0)
+    }
+
+    /// A refusal, or what is told of what was accepted.
+    pub fn of<T>(answer: Result<T, u8>, told: impl FnOnce(T, Recorded) -> Recorded) -> Recorded {
+        match answer {
+            Err(number) => Recorded::refused(number),
+            Ok(answer) => told(answer, Recorded::accepted()),
         }
     }
 
-    pub fn refused(number: u8) -> Answer {
-        Answer::new().refusal(number)
-    }
-
-    pub fn accepted() -> Answer {
-        Answer::new().byte(0)
-    }
-
     /// A refusal behind what was accepted.
-    pub fn refusal(mut self, number: u8) -> Answer {
+    pub fn refusal(mut self, number: u8) -> Recorded {
         self.refusal = number;
         self.byte(number)
     }
 
-    pub fn byte(mut self, byte: u8) -> Answer {
+    pub fn byte(mut self, byte: u8) -> Recorded {
         self.bytes.push(byte);
         self
     }
 
-    pub fn flag(self, flag: bool) -> Answer {
+    pub fn flag(self, flag: bool) -> Recorded {
         self.byte(flag.into())
     }
 
-    pub fn bytes(mut self, bytes: &[u8]) -> Answer {
+    pub fn bytes(mut self, bytes: &[u8]) -> Recorded {
         self.bytes.extend(bytes);
         self
     }
 
-    pub fn number(self, n: usize) -> Answer {
+    pub fn number(self, n: usize) -> Recorded {
         self.bytes(&three(n))
     }
 
-    pub fn checksum(self, sum: u64) -> Answer {
+    pub fn numbers(self, numbers: &[u64]) -> Recorded {
+        let add = |answer: Recorded, n: &u64| answer.number(*n as usize);
+        numbers.iter().fold(self, add)
+    }
+
+    pub fn checksum(self, sum: u64) -> Recorded {
         self.bytes(&u32::try_from(sum).unwrap().to_be_bytes())
     }
 
     /// A string: its length, and its bytes up to 32 of them, else their checksum.
-    pub fn string(self, bytes: &[u8]) -> Answer {
+    pub fn string(self, bytes: &[u8]) -> Recorded {
         let answer = self.number(bytes.len());
         match bytes.len() {
             ..=32 => answer.bytes(bytes),
             _ => answer.checksum(checksum(0, bytes)),
         }
     }
+}
+
+/// A header: any, or one of a class at a boundary.
+pub fn some_header(inputs: &mut Inputs) -> [u8; 4] {
+    let class = match inputs.below(3) {
+        0 => inputs.byte(),
+        _ => inputs.one_of(&[0x00, 0x10, 0x0C, 0x44, 0x80, 0x84, 0xEF, 0xFE, 0xFF]),
+    };
+    [class, inputs.byte(), inputs.byte(), inputs.byte()]
+}
+
+/// A copy with a byte changed, a byte taken out, a byte put in, or cut.
+pub fn damaged(inputs: &mut Inputs, bytes: &[u8]) -> Vec<u8> {
+    let mut copy = bytes.to_vec();
+    let at = inputs.below(copy.len() + 1);
+    match inputs.below(4) {
+        0 if at < copy.len() => copy[at] ^= 1 + inputs.below(255) as u8,
+        1 if at < copy.len() => {
+            copy.remove(at);
+        }
+        2 => copy.truncate(at),
+        _ => copy.insert(at, inputs.byte()),
+    }
+    copy
 }

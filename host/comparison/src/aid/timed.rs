@@ -1,0 +1,86 @@
+//! AIDs timed: a call makes one of a name, then asks it. Both sides make it in each call, save in the line `made before`, where the Rust
+//! asks one that it has; ours keeps none.
+
+use original::aid::Aid;
+
+use super::{of_part, Case, Matches, Part, PIV};
+use crate::call::Call;
+use crate::lent::Hex;
+use crate::timing::{apart, told, Lines, Size, NO_LIMIT};
+
+const OWN: &[u8] = &[0xF0; 16];
+
+/// What the names are made into.
+const SAMPLES: [(&str, &[u8], usize); 7] = [
+    ("international, 11 bytes", PIV, 9),
+    (
+        "national, 7 bytes",
+        &[0xD2, 0x76, 0x00, 0x01, 0x24, 0x01, 0x02],
+        6,
+    ),
+    ("standard, 5 bytes", &[0xE8, 0x28, 0xBD, 0x08, 0x0F], 5),
+    ("proprietary, 16 bytes", OWN, 16),
+    ("other, 1 byte", &[0x3F], 0),
+    ("refused 7, 17 bytes", &[0xF0; 17], 5),
+    ("refused 10, 4 bytes", &[0xA0, 0x00, 0x00, 0x03], 4),
+];
+
+/// Copies a part as it is seen in the Rust's AID.
+fn copy(part: &Part, to: &mut [u8], out: &mut [u64]) -> u8 {
+    match part.aid.made() {
+        Ok(aid) => {
+            let part = part.of(&aid);
+            let bytes = part.unwrap_or(&[]);
+            to[..bytes.len()].copy_from_slice(bytes);
+            out[0] = of_part(part);
+            0
+        }
+        Err(number) => number,
+    }
+}
+
+pub fn time(lines: &mut Lines) {
+    let size = Size::default();
+    for (words, name, truncated_len) in SAMPLES {
+        let name = Hex(name);
+        let of = [Case {
+            name,
+            truncated_len,
+        }];
+        lines.calls(&format!("aid {words}"), &of, size);
+    }
+    let aid = Case::of(PIV, 9);
+    let matches = |asked| Matches {
+        aid,
+        asked: Hex(asked),
+    };
+    for (words, asked) in [
+        ("all of it", PIV),
+        ("its truncated part", &PIV[..9]),
+        ("another", OWN),
+    ] {
+        lines.calls(&format!("aid matches, {words}"), &[matches(asked)], size);
+    }
+    let (to, out, bytes) = (16, 1, 0);
+    let size = Size { to, out, bytes };
+    lines.sides(
+        ("aid matches, all of it, made before", NO_LIMIT),
+        size,
+        (&[(Aid::new_truncatable(PIV, 9), PIV)], &[matches(PIV)]),
+        |(aid, asked), _, out| {
+            out[0] = apart(|| aid.matches(asked)).into();
+            0
+        },
+        |matches, to, out| told(matches.ours(to, out)),
+    );
+    for (part, words) in [(2, "RID"), (3, "PIX")] {
+        let part = Part { aid, part };
+        lines.sides(
+            (&format!("aid {words}, copied"), NO_LIMIT),
+            size,
+            (&[part], &[part]),
+            |part, to, out| apart(|| copy(part, to, out)),
+            |part, to, out| told(part.ours(to, out)),
+        );
+    }
+}

@@ -1,0 +1,109 @@
+//! A command to build, and the builder that the Rust has for it: one of `opened`, which is the Rust's own source with a few functions
+//! more. `CommandBuilder::new` makes those in the modes supported and forced. One that is short only is the first piece of a chain, and
+//! the whole of it where a long buffer is named; but none of these has more than 255 bytes, and none expects Max. Such have a function.
+
+use std::fmt;
+
+use gorvisclen::{EXTENDED_SUPPORTED, SHORT_ONLY};
+use opened::command::class::Class;
+use opened::command::{short_only, CommandBuilder, ExpectedLen};
+
+use super::model;
+use crate::lent::Hex;
+use crate::panics::unless_it_panics;
+
+/// One command to build.
+#[derive(Clone, Copy)]
+pub struct Asked<'a> {
+    pub header: [u8; 4],
+    pub le: u32,
+    pub mode: u8,
+    pub data: &'a [u8],
+}
+
+pub type Builder<'a> = CommandBuilder<&'a [u8]>;
+
+impl fmt::Debug for Asked<'_> {
+    fn fmt(&self, f: &mut fmt::Formatter<'_>) -> fmt::Result {
+        let (header, data) = (Hex(&self.header), Hex(self.data));
+        write!(f, "header {header:?}, le {}, ", self.le)?;
+        write!(f, "mode {}, data {data:?}", self.mode)
+    }
+}
+
+impl<'a> Asked<'a> {
+    #[inline]
+    pub fn new(header: [u8; 4], le: u32, mode: u8, data: &'a [u8]) -> Self {
+        Asked {
+            header,
+            le,
+            mode,
+            data,
+        }
+    }
+
+    /// Whether only code inside of the Rust makes such a builder.
+    #[inline]
+    pub fn is_inside(&self) -> bool {
+        let n = self.data.len();
+        self.mode == SHORT_ONLY && n <= 65_535 && (n > 255 || self.le > 65_535)
+    }
+
+    /// The length that the command takes in a mode, by the model.
+    pub fn len_in(&self, mode: u8) -> usize {
+        model::required_len(self.data.len(), self.le, mode)
+    }
+
+    /// The Rust's builder; 3 where the Rust has no such class, 13 where it panics.
+    #[inline]
+    pub fn made(&self) -> Result<Builder<'a>, u8> {
+        if self.data.len() <= 65_535 {
+            return self.unchecked();
+        }
+        match unless_it_panics(|| self.unchecked().map(|_| ())) {
+            None => Err(13),
+            Some(Err(number)) => Err(number),
+            Some(Ok(())) => panic!("no panic of the Rust's: {self:?}"),
+        }
+    }
+
+    #[inline]
+    fn unchecked(&self) -> Result<Builder<'a>, u8> {
+        let [class, instruction, p1, p2] = self.header;
+        let class = Class::try_from(class).map_err(|_| 3)?;
+        let (instruction, data) = (instruction.into(), self.data);
+        let le = u16::try_from(self.le).map_or(ExpectedLen::Max, ExpectedLen::Ne);
+        let new = || CommandBuilder::new(class, instruction, p1, p2, data, le);
+        Ok(match self.mode {
+            EXTENDED_SUPPORTED => new(),
+            SHORT_ONLY if self.is_inside() => short_only(class, instruction, [p1, p2], data, le),
+            SHORT_ONLY => {
+                // A chain takes no Max. It is asked for one here only where it panics.
+                let (le, long) = (self.le.min(65_535) as u16, Some(usize::MAX / 2));
+                let mut chain =
+                    CommandBuilder::new_non_extended(class, instruction, p1, p2, data, le, long);
+                let whole = chain.next().unwrap();
+                assert!(chain.next().is_none());
+                whole
+            }
+            _ => new().force_extended(),
+        })
+    }
+}
+
+/// The bytes of a command of the Rust.
+pub fn bytes_of(builder: &Builder) -> Vec<u8> {
+    let mut bytes = vec![0; builder.required_len()];
+    let mut rest = &mut bytes[..];
+    builder.serialize_into(&mut rest).unwrap();
+    assert!(rest.is_empty());
+    bytes
+}
+
+/// The number of an expected length: 65,536 for Max.
+pub fn expected(le: ExpectedLen) -> u64 {
+    match le {
+        ExpectedLen::Ne(n) => n.into(),
+        ExpectedLen::Max => gorvisclen::EXPECTED_MAX.into(),
+    }
+}

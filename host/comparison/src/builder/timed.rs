@@ -1,0 +1,100 @@
+//! Builders timed: writing a command, its length, whether it equals a command that is parsed. Both sides make the builder in each call,
+//! save where one is written: the Rust's is then made beforehand; a call of ours makes it too. It writes to the front of a buffer.
+
+use gorvisclen::{EXTENDED_FORCED, EXTENDED_SUPPORTED};
+
+use super::asked::{bytes_of, Asked, Builder};
+use super::operations::{Equals, Force, Length, Write};
+use crate::call::Call;
+use crate::lent::Hex;
+use crate::timing::{apart, told, Lines, Size, HEADER};
+
+/// The most that ours may take of the Rust's time. Above 256 data bytes the time is that of copying them: the compiler does not
+/// make a `memcpy` of the kit's copy, since it is not told that two references do not overlap.
+fn most(data_len: usize) -> f64 {
+    match data_len {
+        0..=256 => 1.10,
+        _ => 2.00,
+    }
+}
+
+/// The lengths of the data, as numbers and in words.
+const LENGTHS: [(usize, &str); 7] = [
+    (0, "no data"),
+    (5, "5 bytes"),
+    (16, "16 bytes"),
+    (255, "255 bytes"),
+    (256, "256 bytes"),
+    (4_096, "4,096 bytes"),
+    (65_535, "65,535 bytes"),
+];
+
+const MODES: [(u8, &str); 2] = [
+    (EXTENDED_SUPPORTED, "supported"),
+    (EXTENDED_FORCED, "forced"),
+];
+
+/// The most bytes that a command takes.
+const LONGEST: usize = 4 + 3 + 65_535 + 2;
+
+fn write(builder: &Builder, buffer: &mut [u8], out: &mut [u64]) -> u8 {
+    let len = buffer.len();
+    let mut rest = buffer;
+    if builder.serialize_into(&mut rest).is_err() {
+        return 16;
+    }
+    out[0] = (len - rest.len()) as u64;
+    0
+}
+
+fn writing(lines: &mut Lines) {
+    for (mode, of_mode) in MODES {
+        for (n, words) in LENGTHS {
+            for (le, with) in [(0, ""), (256, ", Le")] {
+                let data = vec![0xAA; n];
+                let asked = Asked::new(HEADER, le, mode, &data);
+                let size = Size {
+                    to: LONGEST,
+                    out: 1,
+                    bytes: n,
+                };
+                lines.sides(
+                    (&format!("write {of_mode}, {words}{with}"), most(n)),
+                    size,
+                    (&[asked.made().unwrap()], &[Write { asked, at: 0 }]),
+                    |builder, to, out| apart(|| write(builder, to, out)),
+                    |call, to, out| told(call.ours(to, out)),
+                );
+            }
+        }
+    }
+}
+
+fn equality(lines: &mut Lines, words: &str, data: &[u8], other: &[u8]) {
+    let asked = |data| Asked::new(HEADER, 256, EXTENDED_SUPPORTED, data);
+    let apdu = bytes_of(&asked(other).made().unwrap());
+    let (asked, apdu) = (asked(data), Hex(&apdu));
+    let (name, of) = (format!("equal, {words}"), [Equals { asked, apdu }]);
+    lines.calls(&name, &of, Size::default());
+}
+
+pub fn time(lines: &mut Lines) {
+    writing(lines);
+    let data = [0xAA; 4_096];
+    let size = Size::default();
+    for (mode, of_mode) in MODES {
+        for (n, words) in [(0, "no data"), (16, "16 bytes"), (256, "256 bytes")] {
+            let of = [Length(Asked::new(HEADER, 256, mode, &data[..n]))];
+            lines.calls(&format!("length {of_mode}, {words}, Le"), &of, size);
+        }
+    }
+    let asked = Asked::new(HEADER, 256, EXTENDED_SUPPORTED, &data[..16]);
+    lines.calls("length once forced, 16 bytes, Le", &[Force(asked)], size);
+    for (n, words) in [(16, "16 bytes"), (255, "255 bytes"), (4_096, "4,096 bytes")] {
+        equality(lines, words, &data[..n], &data[..n]);
+    }
+    let mut other = data;
+    other[254] = 0;
+    let words = "255 bytes, the last is not";
+    equality(lines, words, &other[..255], &data[..255]);
+}

@@ -1,0 +1,122 @@
+//! Cutting timed. One step: the Rust gives two builders, ours the numbers in which they differ from the one. A whole chain: a call
+//! writes all its pieces, one over the other, to the front of a buffer of the length that a piece may have, and gives how many pieces
+//! and how many bytes they are; the Rust gives each piece as a builder, which then writes it; ours is called once for each piece, and
+//! once to make the chain.
+
+use gorvisclen::{Pieces, Reply, BUFFER_LEN, EXTENDED_SUPPORTED, PIECE_NUMBERS, SPLIT_NUMBERS};
+use opened::command::class::Class;
+use opened::command::CommandBuilder;
+
+use super::steps::Step;
+use crate::builder::Asked;
+use crate::call::{leave, Call};
+use crate::timing::{apart, check, told, Lines, Size, HEADER, NO_LIMIT};
+
+/// The most that ours may take of the Rust's time.
+const MOST: f64 = 1.10;
+
+/// How many data bytes are cut, in numbers and in words: about the longest, a tenth and a hundredth of it.
+const LENGTHS: [(usize, &str); 3] = [
+    (655, "655 bytes"),
+    (6_553, "6,553 bytes"),
+    (65_535, "65,535 bytes"),
+];
+
+fn step(lines: &mut Lines, name: &str, data: &[u8]) {
+    let asked = Asked::new(HEADER, 256, EXTENDED_SUPPORTED, data);
+    let step = Step {
+        asked,
+        available: BUFFER_LEN,
+    };
+    let (mut theirs, mut ours) = ([7; SPLIT_NUMBERS], [7; SPLIT_NUMBERS]);
+    let reply = leave(&step.rust(0), &mut [], &mut theirs);
+    check(name, (reply, theirs), (step.ours(&mut [], &mut ours), ours));
+    let size = Size {
+        out: SPLIT_NUMBERS,
+        ..Size::default()
+    };
+    lines.giving(
+        (name, NO_LIMIT),
+        size,
+        &[step],
+        |step| apart(|| Some(step.asked.made().ok()?.should_split(BUFFER_LEN))),
+        |step, to, out| told(step.ours(to, out)),
+    );
+}
+
+/// One command: what it expects, its data, and the most bytes of a piece.
+#[derive(Clone, Copy)]
+struct Sample<'a> {
+    le: u16,
+    data: &'a [u8],
+    available: usize,
+}
+
+fn by_rust(sample: &Sample, buffer: &mut [u8], out: &mut [u64]) -> u8 {
+    let [class, instruction, p1, p2] = HEADER;
+    let Ok(class) = Class::try_from(class) else {
+        return 3;
+    };
+    let &Sample {
+        le,
+        data,
+        available,
+    } = sample;
+    let (instruction, len) = (instruction.into(), Some(available));
+    let chain = CommandBuilder::new_non_extended(class, instruction, p1, p2, data, le, len);
+    out.fill(0);
+    for piece in chain {
+        let mut rest = &mut buffer[..];
+        if piece.serialize_into(&mut rest).is_err() {
+            return 16;
+        }
+        let left = rest.len();
+        out[0] += 1;
+        out[1] += (buffer.len() - left) as u64;
+    }
+    0
+}
+
+fn by_ours(sample: &Sample, buffer: &mut [u8], out: &mut [u64]) -> Reply {
+    let mut chain = Pieces::new_non_extended(HEADER, sample.data, sample.le, sample.available)?;
+    out.fill(0);
+    while !chain.done {
+        let mut told = [0; PIECE_NUMBERS];
+        chain.write_next(sample.data, buffer, 0, &mut told)?;
+        out[0] += 1;
+        out[1] += told[1];
+        chain = chain.behind(told);
+    }
+    Ok(())
+}
+
+pub fn time(lines: &mut Lines) {
+    let data = [0xAA; 65_535];
+    for (n, words) in [(254, "fits"), (655, "655 bytes")] {
+        step(
+            lines,
+            &format!("one step for {BUFFER_LEN}, {words}"),
+            &data[..n],
+        );
+    }
+    for available in [BUFFER_LEN, 10] {
+        for (n, words) in LENGTHS {
+            for (le, with) in [(0, ""), (256, ", Le")] {
+                let data = &data[..n];
+                let sample = Sample {
+                    le,
+                    data,
+                    available,
+                };
+                let (to, out, bytes) = (available, 2, 40 * n);
+                lines.sides(
+                    (&format!("cut for {available}, {words}{with}"), MOST),
+                    Size { to, out, bytes },
+                    (&[sample], &[sample]),
+                    |sample, to, out| apart(|| by_rust(sample, to, out)),
+                    |sample, to, out| apart(|| told(by_ours(sample, to, out))),
+                );
+            }
+        }
+    }
+}

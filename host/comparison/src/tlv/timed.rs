@@ -1,0 +1,233 @@
+//! BER records timed: a call takes a tag, a length or an object of some bytes, in the crate's reading; writes an object to the front of a
+//! buffer; copies a value; or looks a tag up at the top of a record and gives the value's place and its length. In the lines `as a
+//! slice` it gives the value itself, as the Rust's does: to ours the taking of that part of the record is added, which is the caller's
+//! and has no limit.
+
+use gorvisclen::{CRATE_READING, LOOKUP_NUMBERS};
+use original::command::DataStream;
+use original::tlv::{get_data_object, Tag};
+
+use super::front::{self, place_of, Front};
+use super::lookup::{tag, Find, Lookup, Value};
+use super::records::{bytes_of, length_forms};
+use super::writing::{Object, Put};
+use crate::call::Call;
+use crate::timing::{apart, check, told, Lines, Size, NO_LIMIT};
+
+/// The most that ours may take of the Rust's time, for place and length.
+const MOST: f64 = 1.50;
+
+/// What is looked for, and its tag. The last one is in no record.
+const ASKED: [(&str, u32); 4] = [
+    ("first", 0x5A),
+    ("middle", 0x5F24),
+    ("last", 0xDF8101),
+    ("missing", 0x9F36),
+];
+
+/// The tags of the other objects.
+const OTHERS: [u32; 8] = [0xC1, 0x5F25, 0x50, 0xDF8102, 0x9F1F, 0x87, 0x5F20, 0xC2];
+
+/// Times what the front of some bytes is taken as.
+fn front<const N: usize>(
+    lines: &mut Lines,
+    name: &str,
+    of: impl Front<N>,
+    samples: &[(&str, &[u8])],
+) {
+    for (words, bytes) in samples {
+        let of = [of.of(CRATE_READING, bytes)];
+        lines.calls(&format!("{name}, {words}"), &of, Size::default());
+    }
+}
+
+/// The bytes of an object with a tag of two bytes.
+fn object(n: usize) -> Vec<u8> {
+    [&[0x5F, 0x24], &length_forms(n)[0][..], &vec![0xAA; n]].concat()
+}
+
+fn fronts(lines: &mut Lines) {
+    let tags: [(&str, &[u8]); 4] = [
+        ("1 byte", &[0x5A, 0x00]),
+        ("2 bytes", &[0x5F, 0x24, 0x00]),
+        ("3 bytes", &[0xDF, 0x81, 0x01, 0x00]),
+        ("refused 12", &[0x5F, 0x80, 0x01]),
+    ];
+    front(lines, "take_tag", front::Tag, &tags);
+    let lengths: [(&str, &[u8]); 4] = [
+        ("1 byte", &[0x7F]),
+        ("2 bytes", &[0x81, 0x80]),
+        ("3 bytes", &[0x82, 0x01, 0x00]),
+        ("refused 12", &[0x83, 0x01, 0x00, 0x00]),
+    ];
+    front(lines, "take_len", front::Len, &lengths);
+    let objects: [(&str, &[u8]); 4] = [
+        ("3 bytes", &object(3)),
+        ("200 bytes", &object(200)),
+        ("65,535 bytes", &object(65_535)),
+        ("refused 12", &object(200)[..100]),
+    ];
+    front(lines, "take_data_object", front::Object, &objects);
+}
+
+fn put(object: &Object, to: &mut [u8], out: &mut [u64]) -> u8 {
+    let len = to.len();
+    let mut rest = to;
+    let done = object.rust().to_writer(&mut rest);
+    out[0] = (len - rest.len()) as u64;
+    done.map_or(16, |()| 0)
+}
+
+fn writing(lines: &mut Lines, words: &str, n: usize) {
+    let value = vec![0xAA; n];
+    let object = Object::of([0x00, 0x5F, 0x24], &value);
+    let (to, out, bytes) = (n + 6, 1, 0);
+    lines.sides(
+        (&format!("put_data_object, {words}"), NO_LIMIT),
+        Size { to, out, bytes },
+        (&[object], &[Put { object, at: 0 }]),
+        |object, to, out| apart(|| put(object, to, out)),
+        |put, to, out| told(put.ours(to, out)),
+    );
+}
+
+/// One lookup: our call, the Rust's path, and what it is.
+#[derive(Clone, Copy)]
+struct Sample<'a> {
+    lookup: Lookup<'a>,
+    tags: [Tag; 1],
+}
+
+/// The Rust's lookup; 11 stands for 12 too.
+#[inline(always)]
+fn value_of<'a>(sample: &Sample<'a>) -> Option<&'a [u8]> {
+    get_data_object(&sample.tags, sample.lookup.record.0)
+}
+
+#[inline(always)]
+fn place(sample: &Sample, _: &mut [u8], out: &mut [u64]) -> u8 {
+    let Some(value) = value_of(sample) else {
+        return 11;
+    };
+    let part = place_of(value, &sample.lookup.record);
+    out.copy_from_slice(&[part.start as u64, part.len() as u64]);
+    0
+}
+
+fn copy(sample: &Sample, to: &mut [u8], out: &mut [u64]) -> u8 {
+    let Some(value) = value_of(sample) else {
+        return 11;
+    };
+    to[..value.len()].copy_from_slice(value);
+    out[0] = value.len() as u64;
+    0
+}
+
+impl<'a> Sample<'a> {
+    fn of(record: &'a [u8], path: &'a [u32; 1]) -> Self {
+        Sample {
+            lookup: Lookup::of(CRATE_READING, record, path),
+            tags: [tag(&path[0]).unwrap()],
+        }
+    }
+
+    /// Our lookup, and the part of the record that it tells.
+    #[inline(always)]
+    fn slice(&self, to: &mut [u8], out: &mut [u64]) -> Option<&'a [u8]> {
+        Find(self.lookup).ours(to, out).ok()?;
+        let record = self.lookup.record.0;
+        record.get(out[0] as usize..)?.get(..out[1] as usize)
+    }
+}
+
+fn copying(lines: &mut Lines, words: &str, n: usize) {
+    let record = object(n);
+    let sample = Sample::of(&record, &[0x5F24]);
+    let (to, out, bytes) = (n + 6, 1, 0);
+    lines.sides(
+        (&format!("value copied, {words}"), NO_LIMIT),
+        Size { to, out, bytes },
+        (&[sample], &[Value(sample.lookup)]),
+        |sample, to, out| apart(|| copy(sample, to, out)),
+        |value, to, out| told(value.ours(to, out)),
+    );
+}
+
+/// Adds an object with a value of `n` bytes, at most 127.
+fn add(record: &mut Vec<u8>, tag: u32, n: usize) {
+    record.extend(bytes_of(tag));
+    record.push(n as u8);
+    record.resize(record.len() + n, 0x24);
+}
+
+/// A record of `len` bytes: small objects, those asked for at the beginning, in the middle and at the end.
+fn record_of(len: usize) -> Vec<u8> {
+    let [first, middle, last, _] = ASKED.map(|(_, tag)| tag);
+    let mut record = Vec::new();
+    let fill = |record: &mut Vec<u8>, end: usize| {
+        for i in 0.. {
+            if record.len() >= end {
+                break;
+            }
+            add(record, OTHERS[i % OTHERS.len()], i * 5 % 9);
+        }
+    };
+    add(&mut record, first, 3);
+    fill(&mut record, len / 2);
+    add(&mut record, middle, 3);
+    fill(&mut record, len - 20);
+    let left = len - record.len() - bytes_of(last).len() - 1;
+    add(&mut record, last, left);
+    record
+}
+
+/// Times place and length, then the slice, and prints a line for each.
+fn lookups(lines: &mut Lines, name: &str, samples: &[Sample]) {
+    let walked = |sample: &Sample| match value_of(sample) {
+        Some(value) => place_of(value, &sample.lookup.record).start,
+        None => sample.lookup.record.len(),
+    };
+    let size = Size {
+        to: 0,
+        out: LOOKUP_NUMBERS,
+        bytes: samples.iter().map(walked).max().unwrap(),
+    };
+    let finds: Vec<Find> = samples.iter().map(|sample| Find(sample.lookup)).collect();
+    let ours = |find: &Find, to: &mut [u8], out: &mut [u64]| told(find.ours(to, out));
+    lines.sides((name, MOST), size, (samples, &finds), place, ours);
+    let name = format!("{name}, as a slice");
+    for sample in samples {
+        let part = |value: Option<&[u8]>| value.map(|value| (value.as_ptr(), value.len()));
+        check(
+            &name,
+            part(value_of(sample)),
+            part(sample.slice(&mut [], &mut [7; 2])),
+        );
+    }
+    let ours = |sample: &Sample, to: &mut [u8], out: &mut [u64]| sample.slice(to, out).is_some();
+    lines.giving((&name, NO_LIMIT), size, samples, value_of, ours);
+}
+
+pub fn time(lines: &mut Lines) {
+    fronts(lines);
+    for (n, words) in [
+        (0, "no bytes"),
+        (16, "16 bytes"),
+        (255, "255 bytes"),
+        (4_096, "4,096 bytes"),
+    ] {
+        writing(lines, words, n);
+    }
+    for (n, words) in [(16, "16 bytes"), (255, "255 bytes"), (4_096, "4,096 bytes")] {
+        copying(lines, words, n);
+    }
+    for (len, words) in [(200, "200 bytes"), (60_000, "60,000 bytes")] {
+        let (record, paths) = (record_of(len), ASKED.map(|(_, tag)| [tag]));
+        let samples: Vec<Sample> = paths.iter().map(|path| Sample::of(&record, path)).collect();
+        assert!(value_of(&samples[3]).is_none());
+        lookups(lines, &format!("lookup in {words}"), &samples);
+        for (sample, (name, _)) in samples.iter().zip(ASKED) {
+            lookups(lines, &format!("  {name} in {words}"), &[*sample]);
+        }
+    }
+}
