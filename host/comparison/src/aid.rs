@@ -3,13 +3,13 @@
 mod recorded;
 mod timed;
 
-use gorvisclen::{Reply, AID_NUMBERS, NONE};
+use gorvisclen::{AID_NUMBERS, NONE};
 use original::aid::{Aid, Category, FromSliceError};
 
 pub use self::recorded::record;
 pub use self::timed::time;
 
-use crate::call::{Answer, Call, Left, Names};
+use crate::call::{call, Call, Given};
 use crate::inputs::Inputs;
 use crate::lent::Hex;
 use crate::panics::unless_it_panics;
@@ -92,107 +92,68 @@ impl<'a> Case<'a> {
     }
 }
 
-/// The AID of a name that is not to be truncated.
-#[derive(Debug)]
-struct Whole<'a>(Hex<'a, u8>);
-
-/// A part of an AID, by its number.
-#[derive(Clone, Copy, Debug)]
-struct Part<'a> {
-    aid: Case<'a>,
-    part: u8,
-}
-
-/// Whether an AID is selected by a name.
-#[derive(Debug)]
-struct Matches<'a> {
-    aid: Case<'a>,
-    asked: Hex<'a, u8>,
-}
-
-impl Part<'_> {
-    #[inline(always)]
-    fn of<'b>(&self, aid: &'b Aid) -> Option<&'b [u8]> {
-        match self.part {
-            0 => Some(aid.as_bytes()),
-            1 => Some(aid.truncated()),
-            2 => aid.rid(),
-            _ => aid.pix(),
-        }
-    }
-}
-
-impl Call<AID_NUMBERS> for Case<'_> {
-    const NAME: &'static str = "Aid::try_new_truncatable";
-    const NUMBERS: &'static [&'static str] = &NUMBERS;
-
+impl Given for Case<'_> {
     fn read(&self) -> Vec<u8> {
         self.name.to_vec()
     }
+}
 
-    fn ours(&self, _: &mut [u8], out: &mut [u64]) -> Reply {
-        gorvisclen::aid(&self.name, self.truncated_len, out)
-    }
+/// The AID.
+fn make(case: Case<'_>) -> impl Call<AID_NUMBERS> + '_ {
+    call(
+        ("Aid::try_new_truncatable", &NUMBERS),
+        case,
+        |case, _, out| gorvisclen::aid(&case.name, case.truncated_len, out),
+        |case, _| Ok(of_aid(&case.made()?).into()),
+    )
+}
 
-    fn rust(&self, _: usize) -> Answer<'_, AID_NUMBERS> {
-        Ok(of_aid(&self.made()?).into())
+/// The AID of a name that is not to be truncated.
+fn make_whole(name: &[u8]) -> impl Call<AID_NUMBERS> + '_ {
+    call(
+        ("Aid::try_new", &NUMBERS),
+        Hex(name),
+        |name, _, out| gorvisclen::aid_whole(name, out),
+        |name, _| Ok(of_aid(&Aid::try_new(name).map_err(refusal)?).into()),
+    )
+}
+
+/// A part of an AID by its number, of which every one above is the last.
+#[inline(always)]
+fn part_of(aid: &Aid, part: u8) -> Option<&[u8]> {
+    match part {
+        0 => Some(aid.as_bytes()),
+        1 => Some(aid.truncated()),
+        2 => aid.rid(),
+        _ => aid.pix(),
     }
 }
 
-impl Call<AID_NUMBERS> for Whole<'_> {
-    const NAME: &'static str = "Aid::try_new";
-    const NUMBERS: &'static [&'static str] = &NUMBERS;
-
-    fn read(&self) -> Vec<u8> {
-        self.0.to_vec()
-    }
-
-    fn ours(&self, _: &mut [u8], out: &mut [u64]) -> Reply {
-        gorvisclen::aid_whole(&self.0, out)
-    }
-
-    fn rust(&self, _: usize) -> Answer<'_, AID_NUMBERS> {
-        let aid = Aid::try_new(&self.0).map_err(refusal)?;
-        Ok(of_aid(&aid).into())
-    }
+fn part(case: Case<'_>, part: u8) -> impl Call<1> + '_ {
+    call(
+        (PARTS[usize::from(part.min(3))], &[]),
+        (case, part),
+        |(case, part), to, out| {
+            gorvisclen::aid_part(&case.name, case.truncated_len, *part, to, out)
+        },
+        |(case, part), _| {
+            let aid = case.made()?;
+            let bytes = part_of(&aid, *part);
+            Ok(bytes.map(|bytes| bytes.to_vec().into()).into())
+        },
+    )
 }
 
-impl Call<1> for Part<'_> {
-    fn names(&self, _: usize, _: &Answer<1>) -> Names {
-        (PARTS[usize::from(self.part.min(3))], &[])
-    }
-
-    fn read(&self) -> Vec<u8> {
-        self.aid.read()
-    }
-
-    fn ours(&self, to: &mut [u8], out: &mut [u64]) -> Reply {
-        gorvisclen::aid_part(&self.aid.name, self.aid.truncated_len, self.part, to, out)
-    }
-
-    fn rust(&self, _: usize) -> Answer<'_, 1> {
-        let aid = self.aid.made()?;
-        let part = self.of(&aid);
-        let bytes = part.unwrap_or(&[]).to_vec();
-        Ok(Left::written([of_part(part)], 0, bytes))
-    }
+/// Whether an AID is selected by a name.
+fn matches<'a>(case: Case<'a>, asked: &'a [u8]) -> impl Call<1> + 'a {
+    call(
+        ("Aid::matches", &[]),
+        (case, Hex(asked)),
+        |(case, asked), _, out| gorvisclen::aid_matches(&case.name, case.truncated_len, asked, out),
+        |(case, asked), _| Ok([case.made()?.matches(asked).into()].into()),
+    )
 }
 
-impl Call<1> for Matches<'_> {
-    const NAME: &'static str = "Aid::matches";
-
-    fn read(&self) -> Vec<u8> {
-        [&self.aid.name[..], &self.asked].concat()
-    }
-
-    fn ours(&self, _: &mut [u8], out: &mut [u64]) -> Reply {
-        gorvisclen::aid_matches(&self.aid.name, self.aid.truncated_len, &self.asked, out)
-    }
-
-    fn rust(&self, _: usize) -> Answer<'_, 1> {
-        Ok([self.aid.made()?.matches(&self.asked).into()].into())
-    }
-}
 impl Case<'_> {
     /// Ends the program where the Rust's functions that panic make another AID, or panic where the others make one.
     fn by_those_that_panic(&self) {
@@ -207,23 +168,14 @@ impl Case<'_> {
         assert!(one.is_none_or(|aid| *aid == *aid.as_bytes()));
     }
 
-    fn part(self, tally: &mut Tally, part: u8, to_len: usize, len: usize) {
-        Part { aid: self, part }.compare(tally, to_len, len);
-    }
-
-    fn matches(self, tally: &mut Tally, asked: &[u8], len: usize) {
-        let asked = Hex(asked);
-        Matches { aid: self, asked }.compare_numbers(tally, len);
-    }
-
     /// Every operation once or more, with buffers of lengths around those that it needs.
     fn every_operation(self, tally: &mut Tally, inputs: &mut Inputs) {
         self.by_those_that_panic();
-        self.compare_numbers(tally, AID_NUMBERS + inputs.below(3));
-        self.compare_numbers(tally, inputs.below(AID_NUMBERS));
-        Whole(self.name).compare_numbers(tally, inputs.below(AID_NUMBERS + 3));
-        for part in [0, 1, 2, 3, 4 + inputs.below(252) as u8] {
-            self.part(tally, part, inputs.below(18), inputs.below(4));
+        make(self).compare_numbers(tally, AID_NUMBERS + inputs.below(3));
+        make(self).compare_numbers(tally, inputs.below(AID_NUMBERS));
+        make_whole(&self.name).compare_numbers(tally, inputs.below(AID_NUMBERS + 3));
+        for number in [0, 1, 2, 3, 4 + inputs.below(252) as u8] {
+            part(self, number).compare(tally, inputs.below(18), inputs.below(4));
         }
         let name = self.name.0;
         let shortest = name.get(..self.truncated_len).unwrap_or(name);
@@ -243,9 +195,9 @@ impl Case<'_> {
             inputs.damaged(prefix),
         ];
         for asked in asked {
-            self.matches(tally, &asked, 1 + inputs.below(3));
+            matches(self, &asked).compare_numbers(tally, 1 + inputs.below(3));
         }
-        self.matches(tally, prefix, 0);
+        matches(self, prefix).compare_numbers(tally, 0);
     }
 }
 
@@ -290,13 +242,13 @@ fn every_room(tally: &mut Tally, inputs: &mut Inputs) {
             for truncated_len in 0..=18 {
                 let case = Case::of(&name, truncated_len);
                 for out_len in 0..=12 {
-                    case.compare_numbers(tally, out_len);
-                    Whole(case.name).compare_numbers(tally, out_len);
+                    make(case).compare_numbers(tally, out_len);
+                    make_whole(&name).compare_numbers(tally, out_len);
                 }
-                for part in [0, 1, 2, 3, 255] {
+                for number in [0, 1, 2, 3, 255] {
                     for to_len in 0..=17 {
-                        case.part(tally, part, to_len, 1);
-                        case.part(tally, part, to_len, inputs.below(3));
+                        part(case, number).compare(tally, to_len, 1);
+                        part(case, number).compare(tally, to_len, inputs.below(3));
                     }
                 }
             }
@@ -314,7 +266,7 @@ fn damaged(tally: &mut Tally, inputs: &mut Inputs) {
     let name = inputs.damaged(PIV);
     let case = Case::of(&name, inputs.below(name.len() + 2));
     case.every_operation(tally, inputs);
-    case.matches(tally, PIV, 1);
+    matches(case, PIV).compare_numbers(tally, 1);
 }
 
 /// Any AID, and a damaged copy of a registered one.

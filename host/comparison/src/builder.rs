@@ -17,40 +17,21 @@ pub use self::asked::{bytes_of, expected, Asked};
 use self::fields::{
     some_expected, some_header, some_mode, EXPECTED, HEADERS, LONG, MODES, REFUSED, SHORT, TOO_LONG,
 };
-use self::operations::{read_back, Equals, Force, Length, Write};
+use self::operations::{equals, force, length, read_back, write};
 pub use self::recorded::record;
 pub use self::timed::time;
-use crate::call::{Call, Unread};
+use crate::call::Call;
 use crate::inputs::Inputs;
-use crate::lent::{places_past, Hex};
+use crate::lent::places_past;
 use crate::tally::Tally;
-
-impl Asked<'_> {
-    fn length(self, tally: &mut Tally, len: usize) {
-        Length(self).compare_numbers(tally, len);
-    }
-
-    fn force(self, tally: &mut Tally, len: usize) {
-        Force(self).compare_numbers(tally, len);
-    }
-
-    fn write(self, tally: &mut Tally, buffer_len: usize, at: usize, len: usize) {
-        Write { asked: self, at }.compare(tally, buffer_len, len);
-    }
-
-    fn equals(self, tally: &mut Tally, apdu: &[u8], len: usize) {
-        let apdu = Hex(apdu);
-        Equals { asked: self, apdu }.compare_numbers(tally, len);
-    }
-}
 
 /// Both lengths, with `out` long enough and too short.
 fn every_number(tally: &mut Tally, inputs: &mut Inputs, asked: Asked) {
-    asked.length(tally, 1 + inputs.below(2));
-    asked.force(tally, 1 + inputs.below(2));
+    length(asked).compare_numbers(tally, 1 + inputs.below(2));
+    force(asked).compare_numbers(tally, 1 + inputs.below(2));
     match inputs.below(2) {
-        0 => asked.length(tally, 0),
-        _ => asked.force(tally, 0),
+        0 => length(asked).compare_numbers(tally, 0),
+        _ => force(asked).compare_numbers(tally, 0),
     }
 }
 
@@ -59,12 +40,12 @@ fn around_the_end(tally: &mut Tally, inputs: &mut Inputs, asked: Asked, before: 
     let need = asked.len_in(asked.mode);
     let exact = before + need;
     for buffer_len in [exact, exact - 1, exact + 1] {
-        asked.write(tally, buffer_len, before, 1 + inputs.below(2));
-        asked.write(tally, buffer_len, before + 1, 1);
+        write(asked, before).compare(tally, buffer_len, 1 + inputs.below(2));
+        write(asked, before + 1).compare(tally, buffer_len, 1);
     }
-    asked.write(tally, exact + inputs.below(2), before, 0);
+    write(asked, before).compare(tally, exact + inputs.below(2), 0);
     for at in places_past(before, need) {
-        asked.write(tally, exact, at, 1);
+        write(asked, at).compare(tally, exact, 1);
     }
 }
 
@@ -129,9 +110,9 @@ fn every_comparison(tally: &mut Tally, inputs: &mut Inputs, asked: Asked) {
     apdus.push(inputs.damaged(&apdus[1]));
     apdus.push(inputs.one_of(&REFUSED).to_vec());
     for apdu in &apdus {
-        asked.equals(tally, apdu, 1 + inputs.below(2));
+        equals(asked, apdu).compare_numbers(tally, 1 + inputs.below(2));
     }
-    asked.equals(tally, &apdus[inputs.below(apdus.len())], 0);
+    equals(asked, &apdus[inputs.below(apdus.len())]).compare_numbers(tally, 0);
 }
 
 fn every_operation(tally: &mut Tally, inputs: &mut Inputs, asked: Asked) {
@@ -184,13 +165,13 @@ fn every_expected_length(tally: &mut Tally, inputs: &mut Inputs) {
         for mode in MODES {
             for n in [0, 1, 255, 256] {
                 let asked = Asked::new(header, le, mode, &row[..n]);
-                asked.length(tally, 1);
+                length(asked).compare_numbers(tally, 1);
                 if n < 2 {
-                    asked.write(tally, 12, 1, 1);
+                    write(asked, 1).compare(tally, 12, 1);
                     read_back(tally, asked, 0);
                 }
                 if mode > 0 || le % 64 == 0 {
-                    asked.force(tally, 1);
+                    force(asked).compare_numbers(tally, 1);
                 }
             }
         }
@@ -206,9 +187,9 @@ fn every_length(tally: &mut Tally, inputs: &mut Inputs) {
         for mode in MODES {
             for le in [0, 1, 256, 257, EXPECTED_MAX] {
                 let asked = Asked::new(header, le, mode, &row[..n]);
-                Unread(Length(asked)).compare_numbers(tally, 1);
+                length(asked).compare_unread(tally, 1);
                 if mode > 0 {
-                    Unread(Force(asked)).compare_numbers(tally, 1);
+                    force(asked).compare_unread(tally, 1);
                 }
             }
         }
@@ -254,7 +235,7 @@ fn every_two_bytes(tally: &mut Tally) {
             [header[i], other[i]] = both.to_be_bytes();
             let asked = Asked::new(header, 5, EXTENDED_SUPPORTED, &[0x24]);
             let apdu = model::command(other, 5, EXTENDED_SUPPORTED, &[0x24]);
-            asked.equals(tally, &apdu, 1);
+            equals(asked, &apdu).compare_numbers(tally, 1);
         }
     }
 }
@@ -270,7 +251,7 @@ fn every_place(tally: &mut Tally, inputs: &mut Inputs) {
                 for buffer_len in 0..=16 {
                     for at in (0..=buffer_len + 3).chain([usize::MAX - 1, usize::MAX]) {
                         for len in 0..=2 {
-                            asked.write(tally, buffer_len, at, len);
+                            write(asked, at).compare(tally, buffer_len, len);
                         }
                     }
                 }
@@ -293,7 +274,7 @@ fn every_place_at_a_boundary(tally: &mut Tally, inputs: &mut Inputs) {
                     if n > 257 && inner && at % 1_021 != 0 {
                         continue;
                     }
-                    asked.write(tally, buffer_len, at, 1);
+                    write(asked, at).compare(tally, buffer_len, 1);
                 }
             }
         }
@@ -306,15 +287,15 @@ fn too_long(tally: &mut Tally, inputs: &mut Inputs, header: [u8; 4], mode: u8, d
     let le = inputs.one_of(&EXPECTED);
     let asked = Asked::new(header, le, mode, data);
     for len in 0..=2 {
-        asked.length(tally, len);
-        asked.force(tally, len);
+        length(asked).compare_numbers(tally, len);
+        force(asked).compare_numbers(tally, len);
     }
     for (buffer_len, at) in [(n + 20, 3), (0, 0), (0, 1), (n, 0), (8, usize::MAX)] {
-        asked.write(tally, buffer_len, at, inputs.below(3));
+        write(asked, at).compare(tally, buffer_len, inputs.below(3));
     }
     let own = model::command(header, 0, mode, &data[..n % 65_536]);
     for apdu in REFUSED.into_iter().chain([&own[..]]) {
-        asked.equals(tally, apdu, inputs.below(3));
+        equals(asked, apdu).compare_numbers(tally, inputs.below(3));
     }
 }
 
@@ -336,7 +317,8 @@ fn every_refused(tally: &mut Tally) {
         for header in HEADERS {
             for mode in MODES {
                 for len in 0..=2 {
-                    Asked::new(header, 0, mode, &[]).equals(tally, apdu, len);
+                    let asked = Asked::new(header, 0, mode, &[]);
+                    equals(asked, apdu).compare_numbers(tally, len);
                 }
             }
         }
@@ -361,7 +343,8 @@ pub fn random(tally: &mut Tally, inputs: &mut Inputs) {
     every_operation(tally, inputs, asked);
     // Buffers that end in the header, or in Lc.
     for _ in 0..2 {
-        asked.write(tally, inputs.below(9), inputs.below(3), 1);
+        let buffer_len = inputs.below(9);
+        write(asked, inputs.below(3)).compare(tally, buffer_len, 1);
     }
 }
 

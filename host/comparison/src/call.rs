@@ -6,11 +6,10 @@ use std::fmt::Debug;
 
 use gorvisclen::{Refused, Reply, NONE};
 
-use crate::lent::{bytes, numbers, Lent, Outcome};
+use crate::lent::{bytes, numbers, Hex, Lent, Outcome};
 use crate::tally::Tally;
 
 /// What a call has to leave: numbers at the front of `out`, and bytes in `to` from a place on.
-#[derive(Clone)]
 pub struct Left<'a, const N: usize> {
     pub numbers: [u64; N],
     pub at: usize,
@@ -29,11 +28,12 @@ impl<'a, const N: usize> Left<'a, N> {
     /// Numbers, and bytes from a place on.
     #[inline]
     pub fn written(numbers: [u64; N], at: usize, bytes: impl Into<Cow<'a, [u8]>>) -> Self {
+        let (bytes, refused) = (bytes.into(), None);
         Left {
             numbers,
             at,
-            bytes: bytes.into(),
-            refused: None,
+            bytes,
+            refused,
         }
     }
 
@@ -58,15 +58,16 @@ impl<const N: usize> From<[u64; N]> for Left<'_, N> {
 }
 
 /// A part that is copied to the front, and its length; no part is no bytes, and the number `NONE`.
-impl<'a> From<Option<&'a [u8]>> for Left<'a, 1> {
+impl<'a> From<Option<Cow<'a, [u8]>>> for Left<'a, 1> {
     #[inline]
-    fn from(part: Option<&'a [u8]>) -> Self {
-        let len = part.map_or(NONE, |part| part.len() as u64);
-        Left::written([len], 0, part.unwrap_or(&[]))
+    fn from(part: Option<Cow<'a, [u8]>>) -> Self {
+        let len = part.as_ref().map_or(NONE, |part| part.len() as u64);
+        Left::written([len], 0, part.unwrap_or_default())
     }
 }
 
 /// Leaves an answer. Of two refusals the smaller number wins, but 19 comes before 16.
+#[inline]
 pub fn leave<const N: usize>(answer: &Answer<N>, to: &mut [u8], out: &mut [u64]) -> Reply {
     match answer {
         Ok(left) => left.write(to, out),
@@ -75,20 +76,36 @@ pub fn leave<const N: usize>(answer: &Answer<N>, to: &mut [u8], out: &mut [u64])
     }
 }
 
-/// One call, which writes N numbers. It is printed as its inputs.
-pub trait Call<const N: usize>: Debug {
-    const NAME: &'static str = "";
-    const NUMBERS: &'static [&'static str] = &[];
-
-    /// What it counts for, with `to` of a length and such an answer.
-    fn names(&self, _to_len: usize, _answer: &Answer<N>) -> Names {
-        (Self::NAME, Self::NUMBERS)
-    }
-
-    /// What is lent to be read.
+/// What a call is handed beside what it writes to. It is printed where a call differs.
+pub trait Given: Debug {
+    /// The bytes that are lent to be read.
     fn read(&self) -> Vec<u8> {
         Vec::new()
     }
+}
+
+impl Given for u8 {}
+impl Given for usize {}
+
+impl Given for Hex<'_, u8> {
+    fn read(&self) -> Vec<u8> {
+        self.to_vec()
+    }
+}
+
+impl<A: Given, B: Given> Given for (A, B) {
+    fn read(&self) -> Vec<u8> {
+        [self.0.read(), self.1.read()].concat()
+    }
+}
+
+/// One call, which writes N numbers.
+pub trait Call<const N: usize>: Debug {
+    /// What it counts for, with `to` of a length and such an answer.
+    fn names(&self, to_len: usize, answer: &Answer<N>) -> Names;
+
+    /// What is lent to be read.
+    fn read(&self) -> Vec<u8>;
 
     /// The library's call.
     fn ours(&self, to: &mut [u8], out: &mut [u64]) -> Reply;
@@ -97,9 +114,7 @@ pub trait Call<const N: usize>: Debug {
     fn rust(&self, to_len: usize) -> Answer<'_, N>;
 
     /// What has to be answered: by the Rust, or where it has none by a model.
-    fn theirs(&self, to_len: usize) -> Answer<'_, N> {
-        self.rust(to_len)
-    }
+    fn theirs(&self, to_len: usize) -> Answer<'_, N>;
 
     /// Compares it, with `to` and `out` of these lengths.
     fn compare(&self, tally: &mut Tally, to_len: usize, out_len: usize) {
@@ -113,6 +128,13 @@ pub trait Call<const N: usize>: Debug {
         self.compare(tally, 0, out_len);
     }
 
+    /// The same without a comparison of what is lent to be read, since that is long.
+    fn compare_unread(&self, tally: &mut Tally, out_len: usize) {
+        let (answer, before) = (self.theirs(0), bytes(0));
+        let names = self.names(0, &answer);
+        self.run(tally, names, &answer, (&before, out_len), &Vec::new);
+    }
+
     /// Holds it to an answer, with `to` as it is before.
     fn held(
         &self,
@@ -122,17 +144,26 @@ pub trait Call<const N: usize>: Debug {
         before: &Lent<u8>,
         len: usize,
     ) {
+        self.run(tally, names, answer, (before, len), &|| self.read());
+    }
+
+    fn run(
+        &self,
+        tally: &mut Tally,
+        names: Names,
+        answer: &Answer<N>,
+        (before, len): (&Lent<u8>, usize),
+        read: &dyn Fn() -> Vec<u8>,
+    ) {
         let outcome = |call: &dyn Fn(&mut [u8], &mut [u64]) -> Reply| {
             let (mut to, mut out) = (before.clone(), numbers(len));
             let reply = call(to.part(), out.part());
-            Outcome::new(reply, out, to).reading(self.read())
+            Outcome::new(reply, out, to).reading(read())
         };
         let theirs = outcome(&|to, out| leave(answer, to, out));
         let ours = outcome(&|to, out| self.ours(to, out));
-        let input = || {
-            let to_len = before.len();
-            format!("{self:?}, to of {to_len} bytes, out of {len} numbers")
-        };
+        let to_len = before.len();
+        let input = || format!("{self:?}, to of {to_len} bytes, out of {len} numbers");
         tally.compare(names, input, &theirs, &ours);
     }
 
@@ -143,20 +174,91 @@ pub trait Call<const N: usize>: Debug {
     }
 }
 
-/// A call of which what is lent to be read is not compared, since that is long.
-#[derive(Debug)]
-pub struct Unread<C>(pub C);
+/// What a call counts for with `to` of a length and such an answer, where that is not what it counts for else.
+type Naming<I, const N: usize> = fn(&I, usize, &Answer<N>) -> Option<Names>;
 
-impl<const N: usize, C: Call<N>> Call<N> for Unread<C> {
+/// The description of a call.
+pub struct Described<I, O, R, const N: usize> {
+    inputs: I,
+    names: Names,
+    ours: O,
+    rust: R,
+    naming: Option<Naming<I, N>>,
+    theirs: Option<fn(&I, usize) -> Answer<'_, N>>,
+}
+
+/// A call on inputs, by its names, the library's call and the Rust's answer. Both are handed the inputs, so that they borrow from them.
+#[inline(always)]
+pub fn call<I: Given, const N: usize, O, R>(
+    names: Names,
+    inputs: I,
+    ours: O,
+    rust: R,
+) -> Described<I, O, R, N>
+where
+    O: Fn(&I, &mut [u8], &mut [u64]) -> Reply,
+    R: Fn(&I, usize) -> Answer<'_, N>,
+{
+    Described {
+        inputs,
+        names,
+        ours,
+        rust,
+        naming: None,
+        theirs: None,
+    }
+}
+
+impl<I, O, R, const N: usize> Described<I, O, R, N> {
+    /// With names by the answer, or by the length of `to`.
+    pub fn counted(mut self, naming: Naming<I, N>) -> Self {
+        self.naming = Some(naming);
+        self
+    }
+
+    /// With what has to be answered where that is not what the Rust answers alone.
+    pub fn held_to(mut self, theirs: fn(&I, usize) -> Answer<'_, N>) -> Self {
+        self.theirs = Some(theirs);
+        self
+    }
+}
+
+impl<I: Debug, O, R, const N: usize> Debug for Described<I, O, R, N> {
+    fn fmt(&self, f: &mut std::fmt::Formatter<'_>) -> std::fmt::Result {
+        self.inputs.fmt(f)
+    }
+}
+
+impl<I: Given, O, R, const N: usize> Call<N> for Described<I, O, R, N>
+where
+    O: Fn(&I, &mut [u8], &mut [u64]) -> Reply,
+    R: Fn(&I, usize) -> Answer<'_, N>,
+{
     fn names(&self, to_len: usize, answer: &Answer<N>) -> Names {
-        self.0.names(to_len, answer)
+        let named = self
+            .naming
+            .and_then(|naming| naming(&self.inputs, to_len, answer));
+        named.unwrap_or(self.names)
     }
 
+    fn read(&self) -> Vec<u8> {
+        self.inputs.read()
+    }
+
+    #[inline(always)]
     fn ours(&self, to: &mut [u8], out: &mut [u64]) -> Reply {
-        self.0.ours(to, out)
+        (self.ours)(&self.inputs, to, out)
     }
 
+    #[inline(always)]
     fn rust(&self, to_len: usize) -> Answer<'_, N> {
-        self.0.theirs(to_len)
+        (self.rust)(&self.inputs, to_len)
+    }
+
+    fn theirs(&self, to_len: usize) -> Answer<'_, N> {
+        match self.theirs {
+            Some(theirs) => theirs(&self.inputs, to_len),
+            None => self.rust(to_len),
+        }
     }
 }

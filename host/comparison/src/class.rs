@@ -1,11 +1,11 @@
 //! The class byte: every byte, every operation, `out` of every length to 13; and again in any order.
 
-use gorvisclen::{Reply, CLASS_CONSTANTS, CLASS_NUMBERS, NONE};
+use gorvisclen::{CLASS_CONSTANTS, CLASS_NUMBERS, NONE};
 use original::command::class::{
     Chain, Class, Interindustry, Range, SecureMessaging, NO_SM_CLA, SM_CLA, ZERO_CLA,
 };
 
-use crate::call::{Answer, Call};
+use crate::call::{call, Call};
 use crate::inputs::Inputs;
 use crate::record::{File, Recorded, Text};
 use crate::tally::Tally;
@@ -131,86 +131,52 @@ fn made(cla: u8) -> Result<Class, u8> {
     Class::from_byte(cla).map_err(|_| 3)
 }
 
-/// The class of a byte.
-#[derive(Debug)]
-struct Make(u8);
-
-impl Call<CLASS_NUMBERS> for Make {
-    const NAME: &'static str = "Class::from_byte";
-    const NUMBERS: &'static [&'static str] = &NUMBERS;
-
-    fn ours(&self, _: &mut [u8], out: &mut [u64]) -> Reply {
-        gorvisclen::class(self.0, out)
-    }
-
-    fn rust(&self, _: usize) -> Answer<'_, CLASS_NUMBERS> {
-        Ok(of_class(made(self.0)?).into())
-    }
-
-    fn theirs(&self, _: usize) -> Answer<'_, CLASS_NUMBERS> {
-        Ok(with_standard(of_class(made(self.0)?)).into())
-    }
+/// The class of a byte. The Rust has no standard reading, which the tables stand for.
+fn make(cla: u8) -> impl Call<CLASS_NUMBERS> {
+    call(
+        ("Class::from_byte", &NUMBERS),
+        cla,
+        |&cla, _, out| gorvisclen::class(cla, out),
+        |&cla, _| Ok(of_class(made(cla)?).into()),
+    )
+    .held_to(|&cla, _| Ok(with_standard(of_class(made(cla)?)).into()))
 }
 
 /// The same with its chaining bit set.
-#[derive(Debug)]
-struct Chained(u8);
-
-impl Call<CLASS_NUMBERS> for Chained {
-    const NAME: &'static str = "Class::as_chained";
-    const NUMBERS: &'static [&'static str] = &NUMBERS;
-
-    fn ours(&self, _: &mut [u8], out: &mut [u64]) -> Reply {
-        gorvisclen::class_as_chained(self.0, out)
-    }
-
-    fn rust(&self, _: usize) -> Answer<'_, CLASS_NUMBERS> {
-        Ok(of_class(made(self.0)?.as_chained()).into())
-    }
-
-    fn theirs(&self, _: usize) -> Answer<'_, CLASS_NUMBERS> {
-        Ok(with_standard(of_class(made(self.0)?.as_chained())).into())
-    }
+fn chained(cla: u8) -> impl Call<CLASS_NUMBERS> {
+    call(
+        ("Class::as_chained", &NUMBERS),
+        cla,
+        |&cla, _, out| gorvisclen::class_as_chained(cla, out),
+        |&cla, _| Ok(of_class(made(cla)?.as_chained()).into()),
+    )
+    .held_to(|&cla, _| Ok(with_standard(of_class(made(cla)?.as_chained())).into()))
 }
 
-#[derive(Debug)]
-struct RangeOf(u8);
-
-impl Call<1> for RangeOf {
-    const NAME: &'static str = "Range::from_cla";
-
-    fn ours(&self, _: &mut [u8], out: &mut [u64]) -> Reply {
-        gorvisclen::range(self.0, out)
-    }
-
-    fn rust(&self, _: usize) -> Answer<'_, 1> {
-        let range = Range::from_cla(self.0).map_err(|_| 3)?;
-        Ok([of_range(range)].into())
-    }
+fn range(cla: u8) -> impl Call<1> {
+    call(
+        ("Range::from_cla", &[]),
+        cla,
+        |&cla, _, out| gorvisclen::range(cla, out),
+        |&cla, _| Ok([of_range(Range::from_cla(cla).map_err(|_| 3)?)].into()),
+    )
 }
 
-#[derive(Debug)]
-struct Constants;
-
-impl Call<CLASS_CONSTANTS> for Constants {
-    const NAME: &'static str = "the constants of class";
-    const NUMBERS: &'static [&'static str] = &CONSTANTS;
-
-    fn ours(&self, _: &mut [u8], out: &mut [u64]) -> Reply {
-        gorvisclen::class_constants(out)
-    }
-
-    fn rust(&self, _: usize) -> Answer<'_, CLASS_CONSTANTS> {
-        let constants = [ZERO_CLA, NO_SM_CLA, SM_CLA];
-        Ok(constants.map(|class| class.into_inner().into()).into())
-    }
+fn constants() -> impl Call<CLASS_CONSTANTS> {
+    let bytes = || [ZERO_CLA, NO_SM_CLA, SM_CLA].map(|class| class.into_inner().into());
+    call(
+        ("the constants of class", &CONSTANTS),
+        0,
+        |_: &u8, _, out| gorvisclen::class_constants(out),
+        move |_, _| Ok(bytes().into()),
+    )
 }
 
 /// Every operation on a class byte, with `out` of a length.
 fn every_operation(tally: &mut Tally, cla: u8, len: usize) {
-    Make(cla).compare_numbers(tally, len);
-    Chained(cla).compare_numbers(tally, len);
-    RangeOf(cla).compare_numbers(tally, len);
+    make(cla).compare_numbers(tally, len);
+    chained(cla).compare_numbers(tally, len);
+    range(cla).compare_numbers(tally, len);
 }
 
 /// Any class bytes.
@@ -222,7 +188,7 @@ pub fn random(tally: &mut Tally, inputs: &mut Inputs) {
         };
         every_operation(tally, cla, inputs.below(CLASS_NUMBERS + 3));
     }
-    Constants.compare_numbers(tally, inputs.below(6));
+    constants().compare_numbers(tally, inputs.below(6));
 }
 
 pub fn compare(tally: &mut Tally, inputs: &mut Inputs) {
@@ -230,7 +196,7 @@ pub fn compare(tally: &mut Tally, inputs: &mut Inputs) {
         for cla in 0..=255 {
             every_operation(tally, cla, len);
         }
-        Constants.compare_numbers(tally, len);
+        constants().compare_numbers(tally, len);
     }
     for _ in 0..5_000 {
         random(tally, inputs);
@@ -262,7 +228,7 @@ pub fn record(file: &mut File, _: &mut Inputs) {
 /// The Rust gives the 8 numbers that it has; ours gives these and the 3 of the standard reading.
 pub fn time(lines: &mut Lines) {
     let size = Size::default();
-    let every: Vec<Make> = (0..=255).map(Make).collect();
+    let every: Vec<_> = (0..=255).map(make).collect();
     lines.calls("class, every byte", &every, size);
     for (name, cla) in [
         ("  first interindustry, 0D", 0x0D),
@@ -271,10 +237,10 @@ pub fn time(lines: &mut Lines) {
         ("  proprietary, 84", 0x84),
         ("  refused 3, FF", 0xFF),
     ] {
-        lines.calls(name, &[Make(cla)], size);
+        lines.calls(name, &[make(cla)], size);
     }
-    let every: Vec<Chained> = (0..=255).map(Chained).collect();
+    let every: Vec<_> = (0..=255).map(chained).collect();
     lines.calls("class, chained, every byte", &every, size);
-    let every: Vec<RangeOf> = (0..=255).map(RangeOf).collect();
+    let every: Vec<_> = (0..=255).map(range).collect();
     lines.calls("range of a class, every byte", &every, size);
 }

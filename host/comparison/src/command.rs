@@ -9,14 +9,13 @@ mod timed;
 
 use gorvisclen::{COMMAND_NUMBERS, CRATE_READING, OWNED_NUMBERS, STANDARD_READING};
 
-use self::operations::{Asked, Data, Extend, Own, Parse, Piece, Room, ROOMS, SHORT_ROOMS};
+use self::operations::{data, extend, own, parse, Asked, Piece, Room, ROOMS, SHORT_ROOMS};
 pub use self::parsed::{by_rust, of_owned};
 pub use self::recorded::{commands, record};
 use self::standard::CASES;
 pub use self::timed::time;
-use crate::call::{Call, Unread};
+use crate::call::Call;
 use crate::inputs::Inputs;
-use crate::lent::Hex;
 use crate::tally::Tally;
 
 /// A command of each of the seven cases; one that only the standard reading refuses; refused ones.
@@ -46,22 +45,22 @@ fn rooms_around(n: usize) -> [&'static Room; 2] {
 fn every_reading(tally: &mut Tally, inputs: &mut Inputs, apdu: &[u8]) {
     for reading in [CRATE_READING, 1 + inputs.below(255) as u8] {
         let asked = Asked::of(reading, apdu);
-        Parse(asked).compare_numbers(tally, COMMAND_NUMBERS + inputs.below(3));
-        Parse(asked).compare_numbers(tally, inputs.below(COMMAND_NUMBERS));
+        parse(asked).compare_numbers(tally, COMMAND_NUMBERS + inputs.below(3));
+        parse(asked).compare_numbers(tally, inputs.below(COMMAND_NUMBERS));
         let n = asked.data_len();
-        Data(asked).compare(tally, n, inputs.below(3));
-        Data(asked).compare(tally, n.saturating_sub(1), 1);
-        Data(asked).compare(tally, n + inputs.below(20), 1);
+        data(asked).compare(tally, n, inputs.below(3));
+        data(asked).compare(tally, n.saturating_sub(1), 1);
+        data(asked).compare(tally, n + inputs.below(20), 1);
         for room in rooms_around(n) {
-            Own(asked).compare(tally, room.len, OWNED_NUMBERS + inputs.below(3));
+            own(asked).compare(tally, room.len, OWNED_NUMBERS + inputs.below(3));
         }
         let any = &ROOMS[inputs.below(SHORT_ROOMS)];
-        Own(asked).compare(tally, any.len, inputs.below(OWNED_NUMBERS + 3));
+        own(asked).compare(tally, any.len, inputs.below(OWNED_NUMBERS + 3));
     }
     let asked = Asked::of(STANDARD_READING, apdu);
     let n = asked.data_len();
     for room_len in [n, n.saturating_sub(1), n + inputs.below(20)] {
-        Own(asked).compare(tally, room_len, OWNED_NUMBERS);
+        own(asked).compare(tally, room_len, OWNED_NUMBERS);
     }
 }
 
@@ -96,11 +95,7 @@ fn every_extension(tally: &mut Tally, inputs: &mut Inputs, apdu: &[u8]) {
     for len in past {
         if len > room.len {
             let out_len = OWNED_NUMBERS - usize::from(inputs.below(8) == 0);
-            Extend {
-                len,
-                apdu: Hex(apdu),
-            }
-            .compare(tally, room.len, out_len);
+            extend(len, apdu).compare(tally, room.len, out_len);
         }
     }
 }
@@ -157,9 +152,9 @@ fn every_short_body(tally: &mut Tally, inputs: &mut Inputs) {
             let apdu = &[header, &body].concat();
             for reading in [CRATE_READING, STANDARD_READING] {
                 let asked = Asked::of(reading, apdu);
-                Parse(asked).compare_numbers(tally, COMMAND_NUMBERS);
-                Data(asked).compare(tally, inputs.below(3), 1);
-                Own(asked).compare(tally, ROOMS[inputs.below(3)].len, OWNED_NUMBERS);
+                parse(asked).compare_numbers(tally, COMMAND_NUMBERS);
+                data(asked).compare(tally, inputs.below(3), 1);
+                own(asked).compare(tally, ROOMS[inputs.below(3)].len, OWNED_NUMBERS);
             }
             let room = &ROOMS[inputs.below(3)];
             let out_len = OWNED_NUMBERS;
@@ -175,8 +170,8 @@ fn every_header(tally: &mut Tally, inputs: &mut Inputs) {
         let apdu = &[&number.to_be_bytes(), &apdu[2..]].concat();
         for reading in [CRATE_READING, STANDARD_READING] {
             let asked = Asked::of(reading, apdu);
-            Parse(asked).compare_numbers(tally, COMMAND_NUMBERS);
-            Own(asked).compare(tally, ROOMS[4].len, OWNED_NUMBERS);
+            parse(asked).compare_numbers(tally, COMMAND_NUMBERS);
+            own(asked).compare(tally, ROOMS[4].len, OWNED_NUMBERS);
         }
     }
 }
@@ -187,7 +182,7 @@ fn every_expected_length(tally: &mut Tally) {
         for front in [&[0][..], &[0, 0, 0], &[0, 0, 1, 0xAA]] {
             let apdu = &[&[0x00, 0xC0, 0x00, 0x00], front, &le.to_be_bytes()].concat();
             for reading in [CRATE_READING, STANDARD_READING] {
-                Parse(Asked::of(reading, apdu)).compare_numbers(tally, COMMAND_NUMBERS);
+                parse(Asked::of(reading, apdu)).compare_numbers(tally, COMMAND_NUMBERS);
             }
         }
     }
@@ -213,8 +208,7 @@ fn every_length(tally: &mut Tally, inputs: &mut Inputs) {
             row[4..4 + field.len()].copy_from_slice(&field);
             let apdu = &row[..4 + l];
             for reading in [CRATE_READING, STANDARD_READING] {
-                let parse = Unread(Parse(Asked::of(reading, apdu)));
-                parse.compare_numbers(tally, COMMAND_NUMBERS);
+                parse(Asked::of(reading, apdu)).compare_unread(tally, COMMAND_NUMBERS);
             }
         }
     }
@@ -246,10 +240,10 @@ fn every_buffer(tally: &mut Tally) {
         for reading in 0..=255 {
             let asked = Asked::of(reading, apdu);
             for len in 0..=COMMAND_NUMBERS + 2 {
-                Parse(asked).compare_numbers(tally, len);
+                parse(asked).compare_numbers(tally, len);
                 for room in &ROOMS[..5] {
-                    Data(asked).compare(tally, room.len, len);
-                    Own(asked).compare(tally, room.len, len);
+                    data(asked).compare(tally, room.len, len);
+                    own(asked).compare(tally, room.len, len);
                 }
             }
         }
@@ -259,11 +253,7 @@ fn every_buffer(tally: &mut Tally) {
                     (room.extended)(tally, len, &[Piece { apdu, out_len }]);
                 }
                 for len in room.len + 1..=room.len + 4 {
-                    Extend {
-                        len,
-                        apdu: Hex(apdu),
-                    }
-                    .compare(tally, room.len, out_len);
+                    extend(len, apdu).compare(tally, room.len, out_len);
                 }
             }
         }
@@ -278,12 +268,12 @@ fn every_room(tally: &mut Tally, inputs: &mut Inputs) {
                 let apdu = some_command(inputs, n);
                 let damaged = inputs.damaged(&apdu);
                 for room in &ROOMS {
-                    let mut own = |reading, apdu, len| {
-                        Own(Asked::of(reading, apdu)).compare(tally, room.len, len);
+                    let mut owned = |reading, apdu, len| {
+                        own(Asked::of(reading, apdu)).compare(tally, room.len, len);
                     };
-                    own(CRATE_READING, &apdu, OWNED_NUMBERS);
-                    own(STANDARD_READING, &apdu, inputs.below(9));
-                    own(CRATE_READING, &damaged, OWNED_NUMBERS);
+                    owned(CRATE_READING, &apdu, OWNED_NUMBERS);
+                    owned(STANDARD_READING, &apdu, inputs.below(9));
+                    owned(CRATE_READING, &damaged, OWNED_NUMBERS);
                 }
             }
         }

@@ -15,11 +15,11 @@ use gorvisclen::{Reassembler, JOIN_NUMBERS};
 
 use self::model::BIT;
 use self::pieces::{any_piece, around, some_header, HEADERS};
-use self::steps::{Data, Join, Reset};
+use self::steps::{data, join, join_in, reset};
 pub use self::timed::time;
 use crate::call::Call;
 use crate::inputs::Inputs;
-use crate::lent::{bytes, Hex};
+use crate::lent::bytes;
 use crate::tally::Tally;
 
 /// Any record, with any number of bytes held.
@@ -72,22 +72,20 @@ fn sequences(tally: &mut Tally, inputs: &mut Inputs, turns: Range<usize>) {
             match inputs.below(24) {
                 0 => record = any_record(inputs, header, room_len),
                 1 => {
-                    Reset(record).compare_numbers(tally, 0);
+                    reset(record).compare_numbers(tally, 0);
                     record = Reassembler::CLOSED;
                 }
                 2 => {
                     let joined = around(inputs, record.held.min(room_len));
                     let to_len = around(inputs, joined);
-                    let room = Hex(room.part());
-                    Data { joined, room }.compare(tally, to_len, inputs.below(3));
+                    data(joined, room.part()).compare(tally, to_len, inputs.below(3));
                 }
                 _ => {
                     // Where more is held than there is room, data for which the sum of both wraps, too.
                     let free = room_len.checked_sub(record.held).unwrap_or(300);
                     let piece = any_piece(inputs, header, free);
                     let len = some_numbers(inputs, JOIN_NUMBERS);
-                    let piece = Hex(&piece);
-                    record = Join { record, piece }.compare_in(tally, &mut room, len);
+                    record = join_in(tally, record, &piece, &mut room, len);
                 }
             }
         }
@@ -102,8 +100,7 @@ fn both_records(tally: &mut Tally, header: [u8; 4], piece: &[u8]) {
         held: 1,
     };
     for record in [Reassembler::CLOSED, open] {
-        let piece = Hex(piece);
-        Join { record, piece }.compare(tally, 3, JOIN_NUMBERS);
+        join(record, piece).compare(tally, 3, JOIN_NUMBERS);
     }
 }
 
@@ -145,8 +142,7 @@ fn headers(tally: &mut Tally) {
                     held: 2,
                 };
                 let piece = [&piece[..], &[1, 0xAA]].concat();
-                let piece = Hex(&piece);
-                Join { record, piece }.compare(tally, 3, JOIN_NUMBERS);
+                join(record, &piece).compare(tally, 3, JOIN_NUMBERS);
             }
         }
     }

@@ -13,10 +13,10 @@ use std::hint::black_box;
 use gorvisclen::{EXPECTED_MAX, SPLIT_NUMBERS};
 
 pub use self::recorded::record;
-use self::steps::Step;
+use self::steps::{parts, step};
 pub use self::timed::time;
 use crate::builder::Asked;
-use crate::call::{Call, Unread};
+use crate::call::Call;
 use crate::inputs::Inputs;
 use crate::tally::Tally;
 
@@ -85,13 +85,11 @@ fn some_expected(inputs: &mut Inputs) -> u32 {
     }
 }
 
-impl Step<'_> {
-    /// Compares it, with its data where these are under a length.
-    fn under(self, tally: &mut Tally, most: usize, len: usize) {
-        match self.asked.data.len() < most {
-            true => self.compare_numbers(tally, len),
-            false => Unread(self).compare_numbers(tally, len),
-        }
+/// Compares a step, with its data where these are under a length.
+fn step_under(tally: &mut Tally, most: usize, asked: Asked, available: usize, len: usize) {
+    match asked.data.len() < most {
+        true => step(asked, available).compare_numbers(tally, len),
+        false => step(asked, available).compare_unread(tally, len),
     }
 }
 
@@ -104,13 +102,14 @@ fn every_boundary(tally: &mut Tally, inputs: &mut Inputs) {
             for le in EXPECTED {
                 for mode in 0..3 {
                     let asked = Asked::new(some_header(inputs), le, mode, &row[..n]);
-                    let step = Step { asked, available };
-                    step.under(tally, 300, SPLIT_NUMBERS + inputs.below(2));
+                    let len = SPLIT_NUMBERS + inputs.below(2);
+                    step_under(tally, 300, asked, available, len);
                     if inputs.below(8) == 0 {
-                        step.under(tally, 0, inputs.below(SPLIT_NUMBERS));
+                        let len = inputs.below(SPLIT_NUMBERS);
+                        step(asked, available).compare_unread(tally, len);
                     }
                     if available > 12 && n <= 65_535 && (n < 300 || inputs.below(64) == 0) {
-                        step.parts(tally);
+                        parts(tally, asked, available);
                     }
                 }
             }
@@ -128,11 +127,11 @@ fn every_small_step(tally: &mut Tally, inputs: &mut Inputs) {
             for n in 0..=300 {
                 let asked = Asked::new(header, le, mode, &row[..n]);
                 for available in 10..=300 {
-                    Step { asked, available }.under(tally, 0, SPLIT_NUMBERS);
+                    step(asked, available).compare_unread(tally, SPLIT_NUMBERS);
                 }
                 for available in 0..10 {
                     if !(10..=250).contains(&n) || inputs.below(10) == 0 {
-                        Step { asked, available }.under(tally, 0, SPLIT_NUMBERS);
+                        step(asked, available).compare_unread(tally, SPLIT_NUMBERS);
                     }
                 }
             }
@@ -140,7 +139,7 @@ fn every_small_step(tally: &mut Tally, inputs: &mut Inputs) {
         for le in [0, 256, EXPECTED_MAX] {
             let asked = Asked::new(HEADERS[1], le, mode, &row);
             for available in 0..=65_545 {
-                Step { asked, available }.under(tally, 0, SPLIT_NUMBERS);
+                step(asked, available).compare_unread(tally, SPLIT_NUMBERS);
             }
         }
     }
@@ -156,7 +155,7 @@ fn every_class_and_mode(tally: &mut Tally, inputs: &mut Inputs) {
                 let header = [byte, byte ^ 0x55, byte.wrapping_add(1), 0];
                 for mode in [0, 1, 2, byte] {
                     let asked = Asked::new(header, le, mode, &row[..n]);
-                    Step { asked, available }.compare_numbers(tally, SPLIT_NUMBERS);
+                    step(asked, available).compare_numbers(tally, SPLIT_NUMBERS);
                 }
                 let asked = chains::Asked::new(header, &row[..n], le as u16, available);
                 asked.cut(tally, (1, 1), 5);
@@ -177,10 +176,10 @@ pub fn random_step(tally: &mut Tally, inputs: &mut Inputs) {
     let start = inputs.below(row.len() - n + 1);
     let asked = Asked::new(header, le, mode, &row[start..start + n]);
     let available = some_len(inputs);
-    let step = Step { asked, available };
-    step.under(tally, 700, inputs.below(SPLIT_NUMBERS + 2));
+    let len = inputs.below(SPLIT_NUMBERS + 2);
+    step_under(tally, 700, asked, available, len);
     if available > 12 && n < 700 {
-        step.parts(tally);
+        parts(tally, asked, available);
     }
 }
 

@@ -89,6 +89,18 @@ pub fn check<T: PartialEq + std::fmt::Debug>(name: &str, theirs: T, ours: T) {
     }
 }
 
+/// Checks each call against what it has to leave; its size, with as many numbers as it writes.
+pub fn checked<const N: usize>(name: &str, of: &[impl Call<N>], size: Size) -> Size {
+    for call in of {
+        let mut lent = [0; 2].map(|_| (vec![7; size.to], vec![7; N]));
+        let [(to, out), (our_to, our_out)] = &mut lent;
+        let theirs = told(leave(&call.theirs(to.len()), to, out));
+        let ours = told(call.ours(our_to, our_out));
+        check(name, (theirs, &lent[0]), (ours, &lent[1]));
+    }
+    Size { out: N, ..size }
+}
+
 impl Lines {
     /// Times both sides in turn, each by rounds that say the nanoseconds of a call, and prints a line.
     pub fn time(&mut self, name: &str, most: f64, rust: impl Fn() -> f64, ours: impl Fn() -> f64) {
@@ -174,18 +186,6 @@ impl Lines {
         }
         !self.slow.is_empty()
     }
-}
-
-/// Checks each call against what it has to leave; its size, with as many numbers as it writes.
-fn checked<const N: usize>(name: &str, of: &[impl Call<N>], size: Size) -> Size {
-    for call in of {
-        let mut lent = [0; 2].map(|_| (vec![7; size.to], vec![7; N]));
-        let [(to, out), (our_to, our_out)] = &mut lent;
-        let theirs = told(leave(&call.theirs(to.len()), to, out));
-        let ours = told(call.ours(our_to, our_out));
-        check(name, (theirs, &lent[0]), (ours, &lent[1]));
-    }
-    Size { out: N, ..size }
 }
 
 /// What is printed before the lines.

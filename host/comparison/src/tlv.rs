@@ -17,7 +17,7 @@ use gorvisclen::{
 };
 
 use self::front::{Front, Len, Object, Tag};
-use self::lookup::{Find, Lookup, Value};
+use self::lookup::{find, value, Lookup};
 pub use self::recorded::record;
 use self::records::{length_forms, long_record, some_paths, some_record, Record};
 pub use self::timed::time;
@@ -44,7 +44,7 @@ fn every_front(tally: &mut Tally, inputs: &mut Inputs, bytes: &[u8]) {
 fn every_lookup(tally: &mut Tally, inputs: &mut Inputs, record: &[u8], path: &[u32]) {
     for reading in [CRATE_READING, 1 + inputs.below(255) as u8] {
         let lookup = Lookup::of(reading, record, path);
-        let (find, value) = (Find(lookup), Value(lookup));
+        let (find, value) = (find(lookup), value(lookup));
         find.compare_numbers(tally, LOOKUP_NUMBERS + inputs.below(3));
         let n = lookup.len();
         value.compare(tally, n + inputs.below(3), 1 + inputs.below(2));
@@ -103,9 +103,9 @@ fn every_buffer(tally: &mut Tally) {
                 Object.compare(tally, reading, record, len);
                 for path in paths {
                     let lookup = Lookup::of(reading, record, path);
-                    Find(lookup).compare_numbers(tally, len);
+                    find(lookup).compare_numbers(tally, len);
                     for to_len in 0..=lookup.len() + 1 {
-                        Value(lookup).compare(tally, to_len, len);
+                        value(lookup).compare(tally, to_len, len);
                     }
                 }
             }

@@ -3,9 +3,8 @@
 
 use original::aid::Aid;
 
-use super::{of_part, Case, Matches, Part, PIV};
+use super::{make, matches, of_part, part, part_of, Case, PIV};
 use crate::call::Call;
-use crate::lent::Hex;
 use crate::timing::{apart, told, Lines, Size, NO_LIMIT};
 
 const OWN: &[u8] = &[0xF0; 16];
@@ -26,60 +25,54 @@ const SAMPLES: [(&str, &[u8], usize); 7] = [
 ];
 
 /// Copies a part as it is seen in the Rust's AID.
-fn copy(part: &Part, to: &mut [u8], out: &mut [u64]) -> u8 {
-    match part.aid.made() {
-        Ok(aid) => {
-            let part = part.of(&aid);
-            let bytes = part.unwrap_or(&[]);
-            to[..bytes.len()].copy_from_slice(bytes);
-            out[0] = of_part(part);
-            0
-        }
-        Err(number) => number,
-    }
+fn copy(case: &Case, part: u8, to: &mut [u8], out: &mut [u64]) -> u8 {
+    let aid = match case.made() {
+        Ok(aid) => aid,
+        Err(number) => return number,
+    };
+    let part = part_of(&aid, part);
+    let bytes = part.unwrap_or(&[]);
+    to[..bytes.len()].copy_from_slice(bytes);
+    out[0] = of_part(part);
+    0
 }
 
 pub fn time(lines: &mut Lines) {
     let size = Size::default();
     for (words, name, truncated_len) in SAMPLES {
-        let name = Hex(name);
-        let of = [Case {
-            name,
-            truncated_len,
-        }];
+        let of = [make(Case::of(name, truncated_len))];
         lines.calls(&format!("aid {words}"), &of, size);
     }
-    let aid = Case::of(PIV, 9);
-    let matches = |asked| Matches {
-        aid,
-        asked: Hex(asked),
-    };
+    let case = Case::of(PIV, 9);
     for (words, asked) in [
         ("all of it", PIV),
         ("its truncated part", &PIV[..9]),
         ("another", OWN),
     ] {
-        lines.calls(&format!("aid matches, {words}"), &[matches(asked)], size);
+        lines.calls(
+            &format!("aid matches, {words}"),
+            &[matches(case, asked)],
+            size,
+        );
     }
     let (to, out, bytes) = (16, 1, 0);
     let size = Size { to, out, bytes };
     lines.sides(
         ("aid matches, all of it, made before", NO_LIMIT),
         size,
-        (&[(Aid::new_truncatable(PIV, 9), PIV)], &[matches(PIV)]),
-        |(aid, asked), _, out| {
+        (&[(case.made().unwrap(), PIV)], &[matches(case, PIV)]),
+        |(aid, asked): &(Aid, &[u8]), _, out| {
             out[0] = apart(|| aid.matches(asked)).into();
             0
         },
         |matches, to, out| told(matches.ours(to, out)),
     );
-    for (part, words) in [(2, "RID"), (3, "PIX")] {
-        let part = Part { aid, part };
+    for (number, words) in [(2, "RID"), (3, "PIX")] {
         lines.sides(
             (&format!("aid {words}, copied"), NO_LIMIT),
             size,
-            (&[part], &[part]),
-            |part, to, out| apart(|| copy(part, to, out)),
+            (&[(case, number)], &[part(case, number)]),
+            |(case, number), to, out| apart(|| copy(case, *number, to, out)),
             |part, to, out| told(part.ours(to, out)),
         );
     }

@@ -9,6 +9,7 @@ use opened::command::class::Class;
 use opened::command::{short_only, CommandBuilder, ExpectedLen};
 
 use super::model;
+use crate::call::Given;
 use crate::lent::Hex;
 use crate::panics::unless_it_panics;
 
@@ -28,6 +29,12 @@ impl fmt::Debug for Asked<'_> {
         let (header, data) = (Hex(&self.header), Hex(self.data));
         write!(f, "header {header:?}, le {}, ", self.le)?;
         write!(f, "mode {}, data {data:?}", self.mode)
+    }
+}
+
+impl Given for Asked<'_> {
+    fn read(&self) -> Vec<u8> {
+        self.data.to_vec()
     }
 }
 

@@ -3,9 +3,8 @@
 use gorvisclen::{EXPECTED_MAX, EXTENDED_FORCED, EXTENDED_SUPPORTED, SHORT_ONLY};
 
 use super::asked::Asked;
-use super::operations::{Equals, Write};
+use super::operations::{equals, write};
 use crate::call::{Call, Left};
-use crate::lent::Hex;
 use crate::tally::Tally;
 
 const WRITTEN: &str = "CommandBuilder::serialize_into, case by case (held to document 01)";
@@ -84,7 +83,7 @@ pub fn written(tally: &mut Tally) {
             let len = command.len();
             let answer = Ok(Left::written([len as u64], at, command));
             let asked = Asked::new(HEADER, expected, mode, &data[..n]);
-            Write { asked, at }.written(tally, WRITTEN, &answer, len + 4);
+            write(asked, at).written(tally, WRITTEN, &answer, len + 4);
         }
     }
 }
@@ -102,9 +101,9 @@ pub fn compared(tally: &mut Tally) {
             (EXPECTED_MAX, [1, 0], false),
         ];
         let mut held = |le, data, apdu: Vec<u8>, equal: bool| {
-            let (asked, apdu) = (Asked::new(HEADER, le, mode, data), Hex(&apdu));
+            let asked = Asked::new(HEADER, le, mode, data);
             let answer = Ok([equal.into()].into());
-            Equals { asked, apdu }.written(tally, COMPARED, &answer, 0);
+            equals(asked, &apdu).written(tally, COMPARED, &answer, 0);
         };
         for (le, read, equal) in rows {
             held(le, &[], [&HEADER, &[0][..], &read].concat(), equal);

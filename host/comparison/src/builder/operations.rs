@@ -5,7 +5,7 @@ use opened::command::CommandView;
 
 use super::asked::Asked;
 use super::model;
-use crate::call::{Answer, Call, Left, Names};
+use crate::call::{call, Call, Left};
 use crate::command::by_rust;
 use crate::lent::{bytes, numbers, Hex, Outcome};
 use crate::panics::unless_it_panics;
@@ -47,186 +47,135 @@ impl Asked<'_> {
 }
 
 /// The length of a command.
-#[derive(Debug)]
-pub struct Length<'a>(pub Asked<'a>);
-
-impl Call<1> for Length<'_> {
-    fn names(&self, _: usize, _: &Answer<1>) -> Names {
-        (self.0.name(names!("CommandBuilder::required_len")), &[])
-    }
-
-    fn read(&self) -> Vec<u8> {
-        self.0.data.to_vec()
-    }
-
-    fn ours(&self, _: &mut [u8], out: &mut [u64]) -> Reply {
-        let Asked {
-            header,
-            le,
-            mode,
-            data,
-        } = self.0;
-        gorvisclen::required_len(header, le, mode, data, out)
-    }
-
-    fn rust(&self, _: usize) -> Answer<'_, 1> {
-        Ok([self.0.made()?.required_len() as u64].into())
-    }
-
-    fn theirs(&self, _: usize) -> Answer<'_, 1> {
-        let len = self.0.made()?.required_len();
-        Ok([self.0.same(len, self.0.len_in(self.0.mode)) as u64].into())
-    }
+pub fn length(asked: Asked<'_>) -> impl Call<1> + '_ {
+    call(
+        (asked.name(names!("CommandBuilder::required_len")), &[]),
+        asked,
+        |&Asked {
+             header,
+             le,
+             mode,
+             data,
+         },
+         _,
+         out| { gorvisclen::required_len(header, le, mode, data, out) },
+        |asked, _| Ok([asked.made()?.required_len() as u64].into()),
+    )
+    .held_to(|asked, _| {
+        let len = asked.made()?.required_len();
+        Ok([asked.same(len, asked.len_in(asked.mode)) as u64].into())
+    })
 }
 
-/// The length of a command once extended length is forced.
-#[derive(Debug)]
-pub struct Force<'a>(pub Asked<'a>);
+/// The length of a command once extended length is forced; 15 where the Rust panics.
+pub fn force(asked: Asked<'_>) -> impl Call<1> + '_ {
+    let forced = |asked: &Asked| {
+        let builder = asked.made()?;
+        match asked.mode {
+            SHORT_ONLY => unless_it_panics(|| builder.force_extended().required_len()).ok_or(15),
+            _ => Ok(builder.force_extended().required_len()),
+        }
+    };
+    call(
+        (asked.name(names!("CommandBuilder::force_extended")), &[]),
+        asked,
+        |&Asked {
+             header,
+             le,
+             mode,
+             data,
+         },
+         _,
+         out| { gorvisclen::force_extended(header, le, mode, data, out) },
+        move |asked, _| Ok([forced(asked)? as u64].into()),
+    )
+    .held_to(|asked, _| {
+        let len = force(*asked).rust(0)?.numbers;
+        Ok(asked.same(len, [asked.len_in(2) as u64]).into())
+    })
+}
 
-impl Call<1> for Force<'_> {
-    fn names(&self, _: usize, _: &Answer<1>) -> Names {
-        (self.0.name(names!("CommandBuilder::force_extended")), &[])
-    }
-
-    fn read(&self) -> Vec<u8> {
-        self.0.data.to_vec()
-    }
-
-    fn ours(&self, _: &mut [u8], out: &mut [u64]) -> Reply {
-        let Asked {
-            header,
-            le,
-            mode,
-            data,
-        } = self.0;
-        gorvisclen::force_extended(header, le, mode, data, out)
-    }
-
-    fn rust(&self, _: usize) -> Answer<'_, 1> {
-        let builder = self.0.made()?;
-        let forced = match self.0.mode {
-            SHORT_ONLY => unless_it_panics(|| builder.force_extended()).ok_or(15)?,
-            _ => builder.force_extended(),
-        };
-        Ok([forced.required_len() as u64].into())
-    }
-
-    fn theirs(&self, to_len: usize) -> Answer<'_, 1> {
-        let answer = self.rust(to_len)?;
-        self.0.same(answer.numbers[0], self.0.len_in(2) as u64);
-        Ok(answer)
-    }
+/// Whether it equals, by the model, for a command that the Rust reads.
+fn model_equals(asked: &Asked, apdu: &[u8]) -> Result<bool, u8> {
+    let parsed = by_rust(apdu)?;
+    let [cla, ins, p1, p2, _, _, ne, _] = parsed.numbers;
+    Ok(asked.header.map(u64::from) == [cla, ins, p1, p2]
+        && asked.data == parsed.data
+        && u64::from(model::compared(asked.le)) == ne)
 }
 
 /// Whether a command to build equals one that is read.
-#[derive(Debug)]
-pub struct Equals<'a> {
-    pub asked: Asked<'a>,
-    pub apdu: Hex<'a, u8>,
-}
-
-impl Equals<'_> {
-    /// By the model, for a command that the Rust reads.
-    fn model(&self) -> Result<bool, u8> {
-        let parsed = by_rust(&self.apdu)?;
-        let [cla, ins, p1, p2, _, _, ne, _] = parsed.numbers;
-        Ok(self.asked.header.map(u64::from) == [cla, ins, p1, p2]
-            && self.asked.data == parsed.data
-            && u64::from(model::compared(self.asked.le)) == ne)
-    }
-}
-
-impl Call<1> for Equals<'_> {
-    fn names(&self, _: usize, _: &Answer<1>) -> Names {
-        (
-            self.asked.name(names!("CommandBuilder == CommandView")),
-            &[],
-        )
-    }
-
-    fn read(&self) -> Vec<u8> {
-        [self.asked.data, &self.apdu].concat()
-    }
-
-    fn ours(&self, _: &mut [u8], out: &mut [u64]) -> Reply {
-        let Asked {
-            header,
-            le,
-            mode,
-            data,
-        } = self.asked;
-        gorvisclen::builder_eq(header, le, mode, data, &self.apdu, out)
-    }
-
-    fn rust(&self, _: usize) -> Answer<'_, 1> {
-        let builder = self.asked.made()?;
-        let view = CommandView::try_from(self.apdu.0).map_err(|_| 5)?;
-        Ok([(builder == view).into()].into())
-    }
-
-    fn theirs(&self, _: usize) -> Answer<'_, 1> {
-        let (builder, model) = match (self.asked.made(), self.model()) {
+pub fn equals<'a>(asked: Asked<'a>, apdu: &'a [u8]) -> impl Call<1> + 'a {
+    call(
+        (asked.name(names!("CommandBuilder == CommandView")), &[]),
+        (asked, Hex(apdu)),
+        |&(
+            Asked {
+                header,
+                le,
+                mode,
+                data,
+            },
+            apdu,
+        ),
+         _,
+         out| { gorvisclen::builder_eq(header, le, mode, data, &apdu, out) },
+        |(asked, apdu), _| {
+            let builder = asked.made()?;
+            let view = CommandView::try_from(apdu.0).map_err(|_| 5)?;
+            Ok([(builder == view).into()].into())
+        },
+    )
+    .held_to(|(asked, apdu), _| {
+        let (builder, model) = match (asked.made(), model_equals(asked, apdu)) {
             (Ok(builder), Ok(model)) => (builder, model),
             (Err(one), Err(other)) => return Err(one.min(other)),
             (Err(number), _) | (_, Err(number)) => return Err(number),
         };
-        let view = CommandView::try_from(self.apdu.0).unwrap();
-        let equal = self
-            .asked
-            .same([builder == view, view == builder], [model; 2]);
-        Ok([equal[0].into()].into())
-    }
+        let view = CommandView::try_from(apdu.0).unwrap();
+        let [equal, _] = asked.same([builder == view, view == builder], [model; 2]);
+        Ok([equal.into()].into())
+    })
 }
 
-/// A command written into a buffer from a place.
-#[derive(Debug)]
-pub struct Write<'a> {
-    pub asked: Asked<'a>,
-    pub at: usize,
-}
-
-impl Call<1> for Write<'_> {
-    fn names(&self, to_len: usize, _: &Answer<1>) -> Names {
-        let name = match self.asked.data.len() {
-            0..=65_535 if self.at > to_len => PAST,
-            _ => self.asked.name(names!("CommandBuilder::serialize_into")),
-        };
-        (name, &[])
-    }
-
-    fn read(&self) -> Vec<u8> {
-        self.asked.data.to_vec()
-    }
-
-    fn ours(&self, to: &mut [u8], out: &mut [u64]) -> Reply {
-        let Asked {
-            header,
-            le,
-            mode,
-            data,
-        } = self.asked;
-        gorvisclen::serialize_into(header, le, mode, data, to, self.at, out)
-    }
-
-    /// The Rust writes to as much as there is behind the place.
-    fn rust(&self, to_len: usize) -> Answer<'_, 1> {
-        let Asked {
-            header,
-            le,
-            mode,
-            data,
-        } = self.asked;
-        let builder = self.asked.made()?;
-        let mut written = vec![0; to_len.checked_sub(self.at).ok_or(16)?];
-        let mut rest = &mut written[..];
-        builder.serialize_into(&mut rest).map_err(|_| 16)?;
-        let n = to_len - self.at - rest.len();
-        assert_eq!(n, builder.required_len());
-        written.truncate(n);
-        self.asked
-            .same(&written, &model::command(header, le, mode, data));
-        Ok(Left::written([n as u64], self.at, written))
-    }
+/// A command written into a buffer from a place. The Rust writes to as much as there is behind the place.
+pub fn write(asked: Asked<'_>, at: usize) -> impl Call<1> + '_ {
+    call(
+        (asked.name(names!("CommandBuilder::serialize_into")), &[]),
+        (asked, at),
+        |&(
+            Asked {
+                header,
+                le,
+                mode,
+                data,
+            },
+            at,
+        ),
+         to,
+         out| { gorvisclen::serialize_into(header, le, mode, data, to, at, out) },
+        |&(asked, at), to_len| {
+            let builder = asked.made()?;
+            let mut written = vec![0; to_len.checked_sub(at).ok_or(16)?];
+            let mut rest = &mut written[..];
+            builder.serialize_into(&mut rest).map_err(|_| 16)?;
+            let n = to_len - at - rest.len();
+            assert_eq!(n, builder.required_len());
+            written.truncate(n);
+            let Asked {
+                header,
+                le,
+                mode,
+                data,
+            } = asked;
+            asked.same(&written, &model::command(header, le, mode, data));
+            Ok(Left::written([n as u64], at, written))
+        },
+    )
+    .counted(|(asked, at), to_len, _| {
+        let past = *at > to_len && asked.data.len() <= 65_535;
+        past.then_some((PAST, &[]))
+    })
 }
 
 /// Holds what is written from a place to be read again, in both readings.

@@ -4,9 +4,8 @@
 use gorvisclen::{EXTENDED_FORCED, EXTENDED_SUPPORTED};
 
 use super::asked::{bytes_of, Asked, Builder};
-use super::operations::{Equals, Force, Length, Write};
+use super::operations::{equals, force, length, write};
 use crate::call::Call;
-use crate::lent::Hex;
 use crate::timing::{apart, told, Lines, Size, HEADER};
 
 /// The most that ours may take of the Rust's time. Above 256 data bytes the time is that of copying them: the compiler does not
@@ -37,7 +36,7 @@ const MODES: [(u8, &str); 2] = [
 /// The most bytes that a command takes.
 const LONGEST: usize = 4 + 3 + 65_535 + 2;
 
-fn write(builder: &Builder, buffer: &mut [u8], out: &mut [u64]) -> u8 {
+fn write_built(builder: &Builder, buffer: &mut [u8], out: &mut [u64]) -> u8 {
     let len = buffer.len();
     let mut rest = buffer;
     if builder.serialize_into(&mut rest).is_err() {
@@ -61,8 +60,8 @@ fn writing(lines: &mut Lines) {
                 lines.sides(
                     (&format!("write {of_mode}, {words}{with}"), most(n)),
                     size,
-                    (&[asked.made().unwrap()], &[Write { asked, at: 0 }]),
-                    |builder, to, out| apart(|| write(builder, to, out)),
+                    (&[asked.made().unwrap()], &[write(asked, 0)]),
+                    |builder, to, out| apart(|| write_built(builder, to, out)),
                     |call, to, out| told(call.ours(to, out)),
                 );
             }
@@ -73,9 +72,8 @@ fn writing(lines: &mut Lines) {
 fn equality(lines: &mut Lines, words: &str, data: &[u8], other: &[u8]) {
     let asked = |data| Asked::new(HEADER, 256, EXTENDED_SUPPORTED, data);
     let apdu = bytes_of(&asked(other).made().unwrap());
-    let (asked, apdu) = (asked(data), Hex(&apdu));
-    let (name, of) = (format!("equal, {words}"), [Equals { asked, apdu }]);
-    lines.calls(&name, &of, Size::default());
+    let of = [equals(asked(data), &apdu)];
+    lines.calls(&format!("equal, {words}"), &of, Size::default());
 }
 
 pub fn time(lines: &mut Lines) {
@@ -84,12 +82,12 @@ pub fn time(lines: &mut Lines) {
     let size = Size::default();
     for (mode, of_mode) in MODES {
         for (n, words) in [(0, "no data"), (16, "16 bytes"), (256, "256 bytes")] {
-            let of = [Length(Asked::new(HEADER, 256, mode, &data[..n]))];
+            let of = [length(Asked::new(HEADER, 256, mode, &data[..n]))];
             lines.calls(&format!("length {of_mode}, {words}, Le"), &of, size);
         }
     }
     let asked = Asked::new(HEADER, 256, EXTENDED_SUPPORTED, &data[..16]);
-    lines.calls("length once forced, 16 bytes, Le", &[Force(asked)], size);
+    lines.calls("length once forced, 16 bytes, Le", &[force(asked)], size);
     for (n, words) in [(16, "16 bytes"), (255, "255 bytes"), (4_096, "4,096 bytes")] {
         equality(lines, words, &data[..n], &data[..n]);
     }

@@ -1,11 +1,11 @@
 //! The operations on a command.
 
-use gorvisclen::{Reply, COMMAND_NUMBERS, CRATE_READING, OWNED_NUMBERS};
+use gorvisclen::{COMMAND_NUMBERS, CRATE_READING, OWNED_NUMBERS};
 use original::command::{Command, CommandView};
 
 use super::parsed::{by_rust, of_owned, refusal, Parsed};
 use super::standard::{by_table, NO_CASE, STANDARD_DATA, STANDARD_OWNED};
-use crate::call::{Answer, Call, Left, Names};
+use crate::call::{call, Answer, Call, Given, Left, Names};
 use crate::lent::{bytes, Hex};
 use crate::tally::Tally;
 
@@ -33,6 +33,8 @@ const OF_OWNED: [&str; OWNED_NUMBERS] = [
 ];
 
 const EXTENDED: Names = ("Command::extend_from_command_view", &OF_OWNED);
+const PAST: &str =
+    "Command::extend_from_command_view, held length past the room (no Rust: held to a rule, 18)";
 
 /// One command in one reading.
 #[derive(Clone, Copy, Debug)]
@@ -59,134 +61,86 @@ impl<'a> Asked<'a> {
     }
 }
 
-#[derive(Debug)]
-pub struct Parse<'a>(pub Asked<'a>);
-
-impl Call<COMMAND_NUMBERS> for Parse<'_> {
-    fn names(&self, _: usize, _: &Answer<COMMAND_NUMBERS>) -> Names {
-        match self.0.reading {
-            CRATE_READING => ("CommandView::try_from", &NUMBERS),
-            _ => (
-                by_table(&self.0.apdu).map_or(NO_CASE, |parsed| parsed.operation),
-                &[],
-            ),
-        }
-    }
-
-    fn read(&self) -> Vec<u8> {
-        self.0.apdu.to_vec()
-    }
-
-    fn ours(&self, _: &mut [u8], out: &mut [u64]) -> Reply {
-        gorvisclen::command(self.0.reading, &self.0.apdu, out)
-    }
-
-    fn rust(&self, _: usize) -> Answer<'_, COMMAND_NUMBERS> {
-        Ok(by_rust(&self.0.apdu)?.numbers.into())
-    }
-
-    fn theirs(&self, _: usize) -> Answer<'_, COMMAND_NUMBERS> {
-        Ok(self.0.parsed()?.numbers.into())
-    }
-}
-
-/// The data of a command, copied.
-#[derive(Debug)]
-pub struct Data<'a>(pub Asked<'a>);
-
-impl Call<1> for Data<'_> {
-    fn names(&self, _: usize, _: &Answer<1>) -> Names {
-        match self.0.reading {
-            CRATE_READING => ("CommandView::data", &[]),
-            _ => (STANDARD_DATA, &[]),
-        }
-    }
-
-    fn read(&self) -> Vec<u8> {
-        self.0.apdu.to_vec()
-    }
-
-    fn ours(&self, to: &mut [u8], out: &mut [u64]) -> Reply {
-        gorvisclen::command_data(self.0.reading, &self.0.apdu, to, out)
-    }
-
-    fn rust(&self, _: usize) -> Answer<'_, 1> {
-        Ok(Some(by_rust(&self.0.apdu)?.data).into())
-    }
-
-    fn theirs(&self, _: usize) -> Answer<'_, 1> {
-        Ok(Some(self.0.parsed()?.data).into())
-    }
-}
-
-/// An owned copy of a command. In the crate's reading, `to` is as long as one of the rooms.
-#[derive(Debug)]
-pub struct Own<'a>(pub Asked<'a>);
-
-impl Call<OWNED_NUMBERS> for Own<'_> {
-    fn names(&self, _: usize, _: &Answer<OWNED_NUMBERS>) -> Names {
-        match self.0.reading {
-            CRATE_READING => ("Command::try_from", &OF_OWNED),
-            _ => (STANDARD_OWNED, &[]),
-        }
-    }
-
-    fn read(&self) -> Vec<u8> {
-        self.0.apdu.to_vec()
-    }
-
-    fn ours(&self, to: &mut [u8], out: &mut [u64]) -> Reply {
-        gorvisclen::command_owned(self.0.reading, &self.0.apdu, to, out)
-    }
-
-    fn rust(&self, to_len: usize) -> Answer<'_, OWNED_NUMBERS> {
-        let room = ROOMS.iter().find(|room| room.len == to_len).unwrap();
-        (room.owned)(&self.0.apdu)
-    }
-
-    fn theirs(&self, to_len: usize) -> Answer<'_, OWNED_NUMBERS> {
-        if self.0.reading == CRATE_READING {
-            return self.rust(to_len);
-        }
-        let parsed = by_table(&self.0.apdu)?;
-        if parsed.data.len() > to_len {
-            return Err(2);
-        }
-        let [cla, ins, p1, p2, _, nc, ne, extended] = parsed.numbers;
-        let numbers = [cla, ins, p1, p2, nc, ne, extended];
-        Ok(Left::written(numbers, 0, parsed.data))
-    }
-}
-
-/// An owned command that holds so many bytes, extended by another. Where they are more than the room has, a rule says what is left.
-#[derive(Debug)]
-pub struct Extend<'a> {
-    pub len: usize,
-    pub apdu: Hex<'a, u8>,
-}
-
-impl Call<OWNED_NUMBERS> for Extend<'_> {
-    const NAME: &'static str =
-        "Command::extend_from_command_view, held length past the room (no Rust: held to a rule, 18)";
-
+impl Given for Asked<'_> {
     fn read(&self) -> Vec<u8> {
         self.apdu.to_vec()
     }
+}
 
-    fn ours(&self, to: &mut [u8], out: &mut [u64]) -> Reply {
-        gorvisclen::command_extend(self.len, to, &self.apdu, out)
-    }
+/// A command parsed.
+pub fn parse(asked: Asked<'_>) -> impl Call<COMMAND_NUMBERS> + '_ {
+    let names: Names = match asked.reading {
+        CRATE_READING => ("CommandView::try_from", &NUMBERS),
+        _ => (
+            by_table(&asked.apdu).map_or(NO_CASE, |parsed| parsed.operation),
+            &[],
+        ),
+    };
+    call(
+        names,
+        asked,
+        |asked, _, out| gorvisclen::command(asked.reading, &asked.apdu, out),
+        |asked, _| Ok(by_rust(&asked.apdu)?.numbers.into()),
+    )
+    .held_to(|asked, _| Ok(asked.parsed()?.numbers.into()))
+}
 
-    fn rust(&self, to_len: usize) -> Answer<'_, OWNED_NUMBERS> {
-        assert!(self.len > to_len);
-        let [cla, ins, p1, p2, _, _, expected, _] = by_rust(&self.apdu)?.numbers;
-        let numbers = [cla, ins, p1, p2, self.len as u64, expected, 1];
-        let refused = Some(18);
-        Ok(Left {
-            refused,
-            ..numbers.into()
-        })
+/// The data of a command, copied.
+pub fn data(asked: Asked<'_>) -> impl Call<1> + '_ {
+    let name = match asked.reading {
+        CRATE_READING => "CommandView::data",
+        _ => STANDARD_DATA,
+    };
+    call(
+        (name, &[]),
+        asked,
+        |asked, to, out| gorvisclen::command_data(asked.reading, &asked.apdu, to, out),
+        |asked, _| Ok(Some(by_rust(&asked.apdu)?.data.into()).into()),
+    )
+    .held_to(|asked, _| Ok(Some(asked.parsed()?.data.into()).into()))
+}
+
+/// An owned copy of a command. In the crate's reading, `to` is as long as one of the rooms.
+pub fn own(asked: Asked<'_>) -> impl Call<OWNED_NUMBERS> + '_ {
+    let names: Names = match asked.reading {
+        CRATE_READING => ("Command::try_from", &OF_OWNED),
+        _ => (STANDARD_OWNED, &[]),
+    };
+    call(
+        names,
+        asked,
+        |asked, to, out| gorvisclen::command_owned(asked.reading, &asked.apdu, to, out),
+        |asked, to_len| match asked.reading {
+            CRATE_READING => (Room::with(to_len).owned)(&asked.apdu),
+            _ => own_by_table(&asked.apdu, to_len),
+        },
+    )
+}
+
+fn own_by_table(apdu: &[u8], room_len: usize) -> Answer<'_, OWNED_NUMBERS> {
+    let parsed = by_table(apdu)?;
+    if parsed.data.len() > room_len {
+        return Err(2);
     }
+    let [cla, ins, p1, p2, _, nc, ne, extended] = parsed.numbers;
+    let numbers = [cla, ins, p1, p2, nc, ne, extended];
+    Ok(Left::written(numbers, 0, parsed.data))
+}
+
+/// An owned command that holds so many bytes, extended by another. Where they are more than the room has, a rule says what is left.
+pub fn extend(len: usize, apdu: &[u8]) -> impl Call<OWNED_NUMBERS> + '_ {
+    call(
+        (PAST, &[]),
+        (len, Hex(apdu)),
+        |(len, apdu), to, out| gorvisclen::command_extend(*len, to, apdu, out),
+        |(len, apdu), to_len| {
+            assert!(*len > to_len);
+            let [cla, ins, p1, p2, _, _, expected, _] = by_rust(apdu)?.numbers;
+            let left = Left::from([cla, ins, p1, p2, *len as u64, expected, 1]);
+            let refused = Some(18);
+            Ok(Left { refused, ..left })
+        },
+    )
 }
 
 /// A room of a length that is a capacity of the Rust's `Command`, for what that type does.
@@ -196,7 +150,7 @@ pub struct Room {
     pub extended: fn(&mut Tally, usize, &[Piece]),
 }
 
-pub const ROOMS: [Room; 13] = [
+pub static ROOMS: [Room; 13] = [
     Room::of::<0>(),
     Room::of::<1>(),
     Room::of::<2>(),
@@ -216,6 +170,10 @@ pub const ROOMS: [Room; 13] = [
 pub const SHORT_ROOMS: usize = 10;
 
 impl Room {
+    fn with(len: usize) -> &'static Room {
+        ROOMS.iter().find(|room| room.len == len).unwrap()
+    }
+
     const fn of<const S: usize>() -> Self {
         Room {
             len: S,
@@ -246,16 +204,15 @@ fn extended<const S: usize>(tally: &mut Tally, len: usize, pieces: &[Piece]) {
         let answer = match CommandView::try_from(apdu).map_err(refusal) {
             Err(number) => Err(number),
             Ok(_) if out_len < OWNED_NUMBERS => Err(16),
-            Ok(view) => Ok(extend(&mut held, view, apdu)),
+            Ok(view) => Ok(extend_held(&mut held, view, apdu)),
         };
-        let apdu = Hex(apdu);
-        Extend { len, apdu }.held(tally, EXTENDED, &answer, &room, out_len);
+        extend(len, apdu).held(tally, EXTENDED, &answer, &room, out_len);
         room.part()[..held.data().len()].copy_from_slice(held.data());
     }
 }
 
 /// Extends it by a view, and where the rooms are short, a copy of it by an owned command, which has to do the same.
-fn extend<const S: usize>(
+fn extend_held<const S: usize>(
     held: &mut Command<S>,
     view: CommandView,
     apdu: &[u8],

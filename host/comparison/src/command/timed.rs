@@ -9,7 +9,7 @@ use std::time::Instant;
 use gorvisclen::{CRATE_READING, OWNED_NUMBERS};
 use original::command::{Command, CommandView};
 
-use super::operations::{Asked, Data, Own, Parse};
+use super::operations::{data, own, parse, Asked};
 use super::parsed::{of_owned, refusal};
 use super::written;
 use crate::call::Call;
@@ -48,13 +48,13 @@ fn samples() -> Vec<(&'static str, &'static str, Vec<u8>)> {
 
 fn parsing(lines: &mut Lines) {
     let samples = samples();
-    let parse = |apdu| Parse(Asked::of(CRATE_READING, apdu));
     for kind in ["short", "extended", "refused"] {
         let of_kind = || samples.iter().filter(|sample| sample.0 == kind);
-        let all: Vec<Parse> = of_kind().map(|sample| parse(&sample.2)).collect();
+        let one = |apdu| parse(Asked::of(CRATE_READING, apdu));
+        let all: Vec<_> = of_kind().map(|(_, _, apdu)| one(apdu)).collect();
         lines.limited(kind, MOST, &all, Size::default());
         for (_, name, apdu) in of_kind() {
-            lines.limited(&format!("  {name}"), MOST, &[parse(apdu)], Size::default());
+            lines.limited(&format!("  {name}"), MOST, &[one(apdu)], Size::default());
         }
     }
 }
@@ -71,7 +71,7 @@ fn copies<const N: usize>(lines: &mut Lines, words: &str) {
     let asked = Asked::of(CRATE_READING, &apdu);
     let name = format!("owned copy, {words}");
     let (mut room, mut out) = ([7; N], [7; OWNED_NUMBERS]);
-    let reply = Own(asked).ours(&mut room, &mut out);
+    let reply = own(asked).ours(&mut room, &mut out);
     let command = Command::<N>::try_from(&apdu).unwrap();
     check(&name, (0, of_owned(&command)), (told(reply), out));
     check(&name, &command.data()[..], &room);
@@ -83,11 +83,11 @@ fn copies<const N: usize>(lines: &mut Lines, words: &str) {
     lines.giving(
         (&name, NO_LIMIT),
         size,
-        &[Own(asked)],
-        |own| apart(|| Command::<N>::try_from(own.0.apdu.0)),
-        |own, to, out| told(own.ours(to, out)),
+        &[(asked, own(asked))],
+        |(asked, _)| apart(|| Command::<N>::try_from(asked.apdu.0)),
+        |(_, own), to, out| told(own.ours(to, out)),
     );
-    lines.calls(&format!("data handed back, {words}"), &[Data(asked)], size);
+    lines.calls(&format!("data handed back, {words}"), &[data(asked)], size);
 }
 
 /// A command that holds no data.

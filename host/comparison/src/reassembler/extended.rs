@@ -8,7 +8,7 @@ use original::command::{Command, CommandView, FromSliceError};
 
 use super::model::{rest, BIT};
 use super::pieces::{around, some_header, some_piece};
-use super::steps::Join;
+use super::steps::join;
 use crate::call::{Answer, Call, Left};
 use crate::command::of_owned;
 use crate::inputs::Inputs;
@@ -79,8 +79,7 @@ fn beside<const S: usize>(tally: &mut Tally, pieces: &[Vec<u8>], filled: usize) 
     room.part()[..filled.min(S)].fill(0x5C);
     let mut record = Reassembler::CLOSED;
     let mut compare = |name, piece, answer: Answer<JOIN_NUMBERS>, room: &Lent<u8>| {
-        let piece = Hex(piece);
-        Join { record, piece }.held(tally, (name, &[]), &answer, room, JOIN_NUMBERS);
+        join(record, piece).held(tally, (name, &[]), &answer, room, JOIN_NUMBERS);
         record = answer.map_or(record, |left| rest(left.numbers));
     };
     let first = Command::<S>::try_from(&pieces[0][..]);

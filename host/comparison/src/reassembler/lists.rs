@@ -7,7 +7,7 @@ use gorvisclen::{Pieces, Reassembler, BUFFER_LEN, JOIN_NUMBERS, PIECE_NUMBERS};
 
 use super::model::{self, BIT};
 use super::pieces::{around, some_header, some_piece};
-use super::steps::Data;
+use super::steps::data;
 use crate::call::{leave, Answer, Call, Left};
 use crate::inputs::Inputs;
 use crate::lent::{bytes, numbers, Hex, Lent, Outcome};
@@ -167,8 +167,8 @@ impl Run {
                 self.join(tally, COMMAND, piece, Ok(left));
             }
         }
-        let (joined, room) = (command.data.len(), Hex(self.room.part()));
-        Data { joined, room }.compare(tally, joined + inputs.below(3), 1);
+        let n = command.data.len();
+        data(n, self.room.part()).compare(tally, n + inputs.below(3), 1);
     }
 }
 

@@ -1,9 +1,9 @@
 //! The operations on a record, held to the model.
 
-use gorvisclen::{Reassembler, Refused, Reply, JOIN_NUMBERS};
+use gorvisclen::{Reassembler, Refused, JOIN_NUMBERS};
 
 use super::model;
-use crate::call::{Answer, Call, Left, Names};
+use crate::call::{call, Call, Given, Left};
 use crate::lent::{Hex, Lent};
 use crate::tally::Tally;
 
@@ -14,94 +14,69 @@ const REFUSED: &str = "Reassembler::join, refused (no Rust: held to a model)";
 const NO_RECORD: &str =
     "Reassembler::join, an open record of class FF (no Rust: held to a model, 3)";
 
+impl Given for Reassembler {}
+
 /// A piece that a record is handed. The room is `to`.
-#[derive(Debug)]
-pub struct Join<'a> {
-    pub record: Reassembler,
-    pub piece: Hex<'a, u8>,
+pub fn join(record: Reassembler, piece: &[u8]) -> impl Call<JOIN_NUMBERS> + '_ {
+    call(
+        (REFUSED, &[]),
+        (record, Hex(piece)),
+        |(record, piece), to, out| record.join(piece, to, out),
+        |(record, piece), to_len| {
+            let joined = model::join(*record, piece, to_len)?;
+            Ok(Left::written(joined.numbers, joined.from, joined.data))
+        },
+    )
+    .counted(
+        |(Reassembler { opened, header, .. }, _), _, answer| match answer {
+            Ok(left) if left.numbers[0] == 0 => Some((MORE, &[])),
+            Ok(_) if *opened == 0 => Some((SINGLE, &[])),
+            Ok(_) => Some((SEVERAL, &[])),
+            Err(_) if *opened != 0 && header[0] == 0xFF => Some((NO_RECORD, &[])),
+            Err(_) => None,
+        },
+    )
 }
 
-impl Call<JOIN_NUMBERS> for Join<'_> {
-    fn names(&self, _: usize, answer: &Answer<JOIN_NUMBERS>) -> Names {
-        let Reassembler { opened, header, .. } = self.record;
-        let name = match answer {
-            Ok(left) if left.numbers[0] == 0 => MORE,
-            Ok(_) if opened == 0 => SINGLE,
-            Ok(_) => SEVERAL,
-            Err(_) if opened != 0 && header[0] == 0xFF => NO_RECORD,
-            Err(_) => REFUSED,
-        };
-        (name, &[])
-    }
-
-    fn read(&self) -> Vec<u8> {
-        self.piece.to_vec()
-    }
-
-    fn ours(&self, to: &mut [u8], out: &mut [u64]) -> Reply {
-        self.record.join(&self.piece, to, out)
-    }
-
-    fn rust(&self, to_len: usize) -> Answer<'_, JOIN_NUMBERS> {
-        let joined = model::join(self.record, &self.piece, to_len)?;
-        Ok(Left::written(joined.numbers, joined.from, joined.data))
-    }
-}
-
-impl Join<'_> {
-    /// Compares it, and gives the record after it. The room is as it has to be after it.
-    pub fn compare_in(&self, tally: &mut Tally, room: &mut Lent<u8>, len: usize) -> Reassembler {
-        let answer = self.theirs(room.len());
-        self.held(tally, self.names(room.len(), &answer), &answer, room, len);
-        match answer {
-            Ok(left) if len >= JOIN_NUMBERS => {
-                left.write(room.part(), &mut [0; JOIN_NUMBERS]).unwrap();
-                model::rest(left.numbers)
-            }
-            _ => self.record,
+/// Compares a piece in a room, and gives the record after it. The room is as it has to be after it.
+pub fn join_in(
+    tally: &mut Tally,
+    record: Reassembler,
+    piece: &[u8],
+    room: &mut Lent<u8>,
+    len: usize,
+) -> Reassembler {
+    let call = join(record, piece);
+    let answer = call.theirs(room.len());
+    call.held(tally, call.names(room.len(), &answer), &answer, room, len);
+    match &answer {
+        Ok(left) if len >= JOIN_NUMBERS => {
+            left.write(room.part(), &mut [0; JOIN_NUMBERS]).unwrap();
+            model::rest(left.numbers)
         }
+        _ => record,
     }
 }
 
 /// A reset: it succeeds with every record, and no chain is open after it.
-#[derive(Debug)]
-pub struct Reset(pub Reassembler);
-
-impl Call<0> for Reset {
-    const NAME: &'static str = "Reassembler::reset (no Rust: held to a rule)";
-
-    fn ours(&self, _: &mut [u8], _: &mut [u64]) -> Reply {
-        match self.0.reset() {
+pub fn reset(record: Reassembler) -> impl Call<0> {
+    call(
+        ("Reassembler::reset (no Rust: held to a rule)", &[]),
+        record,
+        |record, _, _| match record.reset() {
             Reassembler::CLOSED => Ok(()),
             open => Err(Refused(open.opened)),
-        }
-    }
-
-    fn rust(&self, _: usize) -> Answer<'_, 0> {
-        Ok([].into())
-    }
+        },
+        |_, _| Ok([].into()),
+    )
 }
 
 /// The copy of a command's data: so many bytes of the room, or all where it has fewer.
-#[derive(Debug)]
-pub struct Data<'a> {
-    pub joined: usize,
-    pub room: Hex<'a, u8>,
-}
-
-impl Call<1> for Data<'_> {
-    const NAME: &'static str = "reassembler::data (no Rust: held to a rule)";
-
-    fn read(&self) -> Vec<u8> {
-        self.room.to_vec()
-    }
-
-    fn ours(&self, to: &mut [u8], out: &mut [u64]) -> Reply {
-        gorvisclen::joined_data(self.joined, &self.room, to, out)
-    }
-
-    fn rust(&self, _: usize) -> Answer<'_, 1> {
-        let part = &self.room[..self.joined.min(self.room.len())];
-        Ok(Some(part).into())
-    }
+pub fn data(joined: usize, room: &[u8]) -> impl Call<1> + '_ {
+    call(
+        ("reassembler::data (no Rust: held to a rule)", &[]),
+        (joined, Hex(room)),
+        |(joined, room), to, out| gorvisclen::joined_data(*joined, room, to, out),
+        |(joined, room), _| Ok(Some(room[..room.len().min(*joined)].into()).into()),
+    )
 }

@@ -1,9 +1,9 @@
 //! Chains in short mode: made, and cut piece by piece into lent buffers.
 
-use gorvisclen::{Pieces, Reply, PIECE_NUMBERS};
+use gorvisclen::{Pieces, PIECE_NUMBERS};
 
 use super::rust;
-use crate::call::{Answer, Call, Left, Names};
+use crate::call::{call, Call, Given, Left};
 use crate::lent::{bytes, Hex};
 use crate::tally::Tally;
 
@@ -21,90 +21,80 @@ const NONE_LEFT: &str = "ChainedCommandIterator::next, none left";
 const DONE: &str =
     "ChainedCommandIterator::next, none left, whatever else is said (held to a rule)";
 
-/// A chain to cut, as a host has it; and how it is made.
+/// A chain to cut, as a host has it.
 #[derive(Clone, Copy, Debug)]
 pub struct Asked<'a> {
     pub chain: Pieces,
     pub data: Hex<'a, u8>,
 }
 
+/// The data are long: they are not compared.
+impl Given for Asked<'_> {}
+
+/// A chain made.
+fn new(asked: Asked<'_>) -> impl Call<0> + '_ {
+    let name = match asked.data.len() {
+        0..=65_535 if asked.chain.available < 10 => NEW_SMALL,
+        0..=65_535 => NEW,
+        _ => NEW_TOO_LONG,
+    };
+    call(
+        (name, &[]),
+        asked,
+        |asked, _, _| {
+            let Pieces {
+                header,
+                le,
+                available,
+                ..
+            } = asked.chain;
+            let chain = Pieces::new_non_extended(header, &asked.data, le, available)?;
+            assert_eq!(chain, asked.chain);
+            Ok(())
+        },
+        |asked, _| asked.of_rust().map(|_| [].into()),
+    )
+}
+
+/// What is left where this is the piece, or where none is left.
+fn left<'a>(piece: Option<rust::Piece>, at: usize) -> Left<'a, PIECE_NUMBERS> {
+    match piece {
+        Some((bytes, numbers)) => Left::written(numbers, at, bytes),
+        None => [0; PIECE_NUMBERS].into(),
+    }
+}
+
 /// The next piece of a chain, written from a place.
-#[derive(Debug)]
-struct Next<'a> {
-    asked: Asked<'a>,
-    at: usize,
-}
-
-impl Call<0> for Asked<'_> {
-    fn names(&self, _: usize, _: &Answer<0>) -> Names {
-        match self.data.len() {
-            0..=65_535 if self.chain.available < 10 => (NEW_SMALL, &[]),
-            0..=65_535 => (NEW, &[]),
-            _ => (NEW_TOO_LONG, &[]),
-        }
-    }
-
-    fn ours(&self, _: &mut [u8], _: &mut [u64]) -> Reply {
-        let Pieces {
-            header,
-            le,
-            available,
-            ..
-        } = self.chain;
-        let chain = Pieces::new_non_extended(header, &self.data, le, available)?;
-        assert_eq!(chain, self.chain);
-        Ok(())
-    }
-
-    fn rust(&self, _: usize) -> Answer<'_, 0> {
-        self.of_rust().map(|_| [].into())
-    }
-}
-
-impl Call<PIECE_NUMBERS> for Next<'_> {
-    fn names(&self, _: usize, _: &Answer<PIECE_NUMBERS>) -> Names {
-        match self.asked.chain {
-            Pieces { done: true, .. } => (DONE, &[]),
-            Pieces {
-                available: 0..10, ..
-            } => (NEXT_SMALL, &[]),
-            _ => (NEXT_AT, &[]),
-        }
-    }
-
-    fn ours(&self, to: &mut [u8], out: &mut [u64]) -> Reply {
-        let Asked { chain, data } = self.asked;
-        chain.write_next(&data, to, self.at, out)
-    }
-
-    fn rust(&self, _: usize) -> Answer<'_, PIECE_NUMBERS> {
-        let Asked { chain, data } = self.asked;
-        let Pieces {
-            header,
-            le,
-            available,
-            place,
-            done,
-        } = chain;
-        if done {
-            return Ok(self.answer(None));
-        }
-        if available < 10 {
-            return self.asked.of_rust().map(|_| self.answer(None));
-        }
-        let piece = rust::Chain::at(header, data.0, (le, place), available)?.next();
-        Ok(self.answer(piece.as_ref()))
-    }
-}
-
-impl Next<'_> {
-    /// What is left where this is the piece, or where none is left.
-    fn answer<'a>(&self, piece: Option<&rust::Piece>) -> Left<'a, PIECE_NUMBERS> {
-        match piece {
-            Some((bytes, numbers)) => Left::written(*numbers, self.at, bytes.clone()),
-            None => [0; PIECE_NUMBERS].into(),
-        }
-    }
+fn next(asked: Asked<'_>, at: usize) -> impl Call<PIECE_NUMBERS> + '_ {
+    let name = match asked.chain {
+        Pieces { done: true, .. } => DONE,
+        Pieces {
+            available: 0..10, ..
+        } => NEXT_SMALL,
+        _ => NEXT_AT,
+    };
+    call(
+        (name, &[]),
+        (asked, at),
+        |&(Asked { chain, data }, at), to, out| chain.write_next(&data, to, at, out),
+        |&(asked, at), _| {
+            let Pieces {
+                header,
+                le,
+                available,
+                place,
+                done,
+            } = asked.chain;
+            if done {
+                return Ok(left(None, at));
+            }
+            if available < 10 {
+                return asked.of_rust().map(|_| left(None, at));
+            }
+            let mut chain = rust::Chain::at(header, asked.data.0, (le, place), available)?;
+            Ok(left(chain.next(), at))
+        },
+    )
 }
 
 impl<'a> Asked<'a> {
@@ -138,32 +128,32 @@ impl<'a> Asked<'a> {
     /// Compares a whole chain, piece by piece, each written from the place `before` of a buffer with `behind` bytes more than it may
     /// take. Now and then, by `short`, into one that is a byte too short first.
     pub fn cut(&self, tally: &mut Tally, (before, behind): (usize, usize), short: usize) {
-        self.compare_numbers(tally, 0);
+        new(*self).compare_numbers(tally, 0);
         let Ok(mut theirs) = self.of_rust() else {
             return;
         };
         let mut asked = *self;
         let mut turn = 0;
-        let mut held =
-            |asked, piece: Option<&rust::Piece>, (len, at, out): (usize, usize, usize)| {
-                let (next, name) = (
-                    Next { asked, at },
-                    if piece.is_some() { NEXT } else { NONE_LEFT },
-                );
-                let answer = Ok(next.answer(piece));
-                next.held(tally, (name, &[]), &answer, &bytes(len), out);
-            };
+        let mut held = |asked, piece: Option<rust::Piece>, (len, at, out): (_, _, _)| {
+            let name = if piece.is_some() { NEXT } else { NONE_LEFT };
+            let answer = Ok(left(piece, at));
+            next(asked, at).held(tally, (name, &[]), &answer, &bytes(len), out);
+        };
         while let Some(piece) = theirs.next() {
             assert!(piece.0.len() <= self.chain.available);
             let exact = before + piece.0.len();
             if turn % short == short - 1 {
-                held(asked, Some(&piece), (exact - 1, before, 5));
-                held(asked, Some(&piece), (exact, before + 1, 6));
-                held(asked, Some(&piece), (exact, before, 4));
-                held(asked, Some(&piece), (exact, before, 5));
+                for into in [
+                    (exact - 1, before, 5),
+                    (exact, before + 1, 6),
+                    (exact, before, 4),
+                    (exact, before, 5),
+                ] {
+                    held(asked, Some(piece.clone()), into);
+                }
             }
             let into = (exact + behind, before, 5 + turn % 2);
-            held(asked, Some(&piece), into);
+            held(asked, Some(piece.clone()), into);
             asked.chain = asked.chain.behind(piece.1);
             turn += 1;
         }
@@ -175,6 +165,6 @@ impl<'a> Asked<'a> {
 
     /// Compares the next piece of a chain in any state, into a buffer of a length, from a place.
     pub fn next_at(self, tally: &mut Tally, (buffer_len, at, len): (usize, usize, usize)) {
-        Next { asked: self, at }.compare(tally, buffer_len, len);
+        next(self, at).compare(tally, buffer_len, len);
     }
 }

@@ -2,7 +2,7 @@
 
 use gorvisclen::{Pieces, Refused, PIECE_NUMBERS};
 
-use super::steps::Step;
+use super::steps::step;
 use crate::builder::Asked;
 use crate::call::Call;
 use crate::lent::{bytes, numbers, Outcome};
@@ -61,14 +61,14 @@ pub fn steps(tally: &mut Tally) {
                 Some((len, le)) => [1, len, (class | 0x10).into(), 0, class.into(), le],
             };
             let asked = Asked::new(header, le, mode, &data[..n]);
-            Step { asked, available }.written(tally, PAPER, &Ok(answer.into()), 0);
+            step(asked, available).written(tally, PAPER, &Ok(answer.into()), 0);
         }
     }
     for mode in 0..3 {
         for (n, available, answer) in [(0, 3, Err(14)), (0, 4, Ok([0; 6])), (1, 4, Err(14))] {
             let asked = Asked::new(HEADER, 1, mode, &data[..n]);
             let answer = answer.map(|numbers| numbers.into());
-            Step { asked, available }.written(tally, PAPER, &answer, 0);
+            step(asked, available).written(tally, PAPER, &answer, 0);
         }
     }
 }

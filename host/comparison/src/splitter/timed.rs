@@ -3,14 +3,14 @@
 //! and how many bytes they are; the Rust gives each piece as a builder, which then writes it; ours is called once for each piece, and
 //! once to make the chain.
 
-use gorvisclen::{Pieces, Reply, BUFFER_LEN, EXTENDED_SUPPORTED, PIECE_NUMBERS, SPLIT_NUMBERS};
+use gorvisclen::{Pieces, Reply, BUFFER_LEN, EXTENDED_SUPPORTED, PIECE_NUMBERS};
 use opened::command::class::Class;
 use opened::command::CommandBuilder;
 
-use super::steps::Step;
+use super::steps::step;
 use crate::builder::Asked;
-use crate::call::{leave, Call};
-use crate::timing::{apart, check, told, Lines, Size, HEADER, NO_LIMIT};
+use crate::call::Call;
+use crate::timing::{apart, checked, told, Lines, Size, HEADER, NO_LIMIT};
 
 /// The most that ours may take of the Rust's time.
 const MOST: f64 = 1.10;
@@ -22,25 +22,15 @@ const LENGTHS: [(usize, &str); 3] = [
     (65_535, "65,535 bytes"),
 ];
 
-fn step(lines: &mut Lines, name: &str, data: &[u8]) {
+fn one_step(lines: &mut Lines, name: &str, data: &[u8]) {
     let asked = Asked::new(HEADER, 256, EXTENDED_SUPPORTED, data);
-    let step = Step {
-        asked,
-        available: BUFFER_LEN,
-    };
-    let (mut theirs, mut ours) = ([7; SPLIT_NUMBERS], [7; SPLIT_NUMBERS]);
-    let reply = leave(&step.rust(0), &mut [], &mut theirs);
-    check(name, (reply, theirs), (step.ours(&mut [], &mut ours), ours));
-    let size = Size {
-        out: SPLIT_NUMBERS,
-        ..Size::default()
-    };
+    let size = checked(name, &[step(asked, BUFFER_LEN)], Size::default());
     lines.giving(
         (name, NO_LIMIT),
         size,
-        &[step],
-        |step| apart(|| Some(step.asked.made().ok()?.should_split(BUFFER_LEN))),
-        |step, to, out| told(step.ours(to, out)),
+        &[(asked, step(asked, BUFFER_LEN))],
+        |(asked, _)| apart(|| Some(asked.made().ok()?.should_split(BUFFER_LEN))),
+        |(_, step), to, out| told(step.ours(to, out)),
     );
 }
 
@@ -93,7 +83,7 @@ fn by_ours(sample: &Sample, buffer: &mut [u8], out: &mut [u64]) -> Reply {
 pub fn time(lines: &mut Lines) {
     let data = [0xAA; 65_535];
     for (n, words) in [(254, "fits"), (655, "655 bytes")] {
-        step(
+        one_step(
             lines,
             &format!("one step for {BUFFER_LEN}, {words}"),
             &data[..n],

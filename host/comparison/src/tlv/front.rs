@@ -9,12 +9,12 @@ use original::tlv::{self, take_data_object, take_len, take_tag};
 
 use super::model;
 use super::names::{self, Names};
-use crate::call::{self, Answer, Call};
+use crate::call::{call, leave, Call, Given};
 use crate::lent::{bytes, numbers, Hex, Lent, Outcome};
 use crate::tally::Tally;
 
 /// One of them: its names, the exported function, what the Rust reads and what the model says.
-pub trait Front<const N: usize>: Copy + Debug {
+pub trait Front<const N: usize>: Copy + Given {
     const NAMES: Names;
     const OURS: fn(u8, &[u8], &mut [u64]) -> Reply;
 
@@ -22,13 +22,16 @@ pub trait Front<const N: usize>: Copy + Debug {
 
     fn model(self, reading: u8, bytes: &[u8]) -> Result<[u64; N], u8>;
 
-    fn of(self, reading: u8, bytes: &[u8]) -> Take<'_, Self> {
-        let bytes = Hex(bytes);
-        Take {
-            of: self,
-            reading,
-            bytes,
-        }
+    /// What the front of some bytes is in a reading.
+    fn of(self, reading: u8, bytes: &[u8]) -> impl Call<N> {
+        call(
+            (Self::NAMES.some, Self::NAMES.numbers),
+            (self, (reading, Hex(bytes))),
+            |&(_, (reading, bytes)), _, out| Self::OURS(reading, &bytes, out),
+            |(of, (_, bytes)), _| Ok(of.rust(bytes).ok_or(12)?.into()),
+        )
+        .held_to(|(of, (reading, bytes)), _| Ok(of.answer(*reading, bytes)?.into()))
+        .counted(|(_, (reading, _)), _, answer| Some(Self::NAMES.of(*reading, answer.is_ok())))
     }
 
     fn compare(self, tally: &mut Tally, reading: u8, bytes: &[u8], len: usize) {
@@ -59,7 +62,7 @@ pub trait Front<const N: usize>: Copy + Debug {
                 continue;
             }
             let mut theirs = Reused::new(N);
-            let demanded = call::leave(&answer.map(|n| n.into()), &mut [], theirs.lent.part());
+            let demanded = leave(&answer.map(|n| n.into()), &mut [], theirs.lent.part());
             let theirs = theirs.outcome(demanded).reading(before.to_vec());
             let ours = out.outcome(reply).reading(string.to_vec());
             let names = Self::NAMES.of(reading, answer.is_ok());
@@ -74,6 +77,8 @@ pub trait Front<const N: usize>: Copy + Debug {
 
 #[derive(Clone, Copy, Debug)]
 pub struct Tag;
+
+impl Given for Tag {}
 
 impl Front<TAG_NUMBERS> for Tag {
     const NAMES: Names = names::TAG;
@@ -93,6 +98,8 @@ impl Front<TAG_NUMBERS> for Tag {
 #[derive(Clone, Copy, Debug)]
 pub struct Len;
 
+impl Given for Len {}
+
 impl Front<LEN_NUMBERS> for Len {
     const NAMES: Names = names::LEN;
     const OURS: fn(u8, &[u8], &mut [u64]) -> Reply = gorvisclen::take_len;
@@ -110,6 +117,8 @@ impl Front<LEN_NUMBERS> for Len {
 
 #[derive(Clone, Copy, Debug)]
 pub struct Object;
+
+impl Given for Object {}
 
 impl Front<OBJECT_NUMBERS> for Object {
     const NAMES: Names = names::OBJECT;
@@ -144,36 +153,6 @@ pub fn place_of(part: &[u8], bytes: &[u8]) -> Range<usize> {
 /// Ends the program where the model does not read what the Rust reads.
 pub fn same<T: PartialEq, I: Debug>(rust: Option<T>, model: Option<T>, input: impl Fn() -> I) {
     assert!(rust == model, "the model is not the Rust: {:?}", input());
-}
-
-/// What the front of some bytes is in a reading.
-#[derive(Debug)]
-pub struct Take<'a, F> {
-    of: F,
-    reading: u8,
-    bytes: Hex<'a, u8>,
-}
-
-impl<const N: usize, F: Front<N>> Call<N> for Take<'_, F> {
-    fn names(&self, _: usize, answer: &Answer<N>) -> call::Names {
-        F::NAMES.of(self.reading, answer.is_ok())
-    }
-
-    fn read(&self) -> Vec<u8> {
-        self.bytes.to_vec()
-    }
-
-    fn ours(&self, _: &mut [u8], out: &mut [u64]) -> Reply {
-        F::OURS(self.reading, &self.bytes, out)
-    }
-
-    fn rust(&self, _: usize) -> Answer<'_, N> {
-        Ok(self.of.rust(&self.bytes).ok_or(12)?.into())
-    }
-
-    fn theirs(&self, _: usize) -> Answer<'_, N> {
-        Ok(self.of.answer(self.reading, &self.bytes)?.into())
-    }
 }
 
 /// Numbers that are lent to one call after the other, each time as they were at first.

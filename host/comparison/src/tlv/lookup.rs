@@ -2,13 +2,13 @@
 
 use std::ops::Range;
 
-use gorvisclen::{Reply, CRATE_READING, LOOKUP_NUMBERS};
+use gorvisclen::{CRATE_READING, LOOKUP_NUMBERS};
 use original::tlv::{get_data_object, Tag};
 
 use super::front::{place_of, same};
 use super::model;
 use super::names::{ABOVE, ABOVE_VALUE, LOOKUP, STANDARD_VALUE, VALUE};
-use crate::call::{Answer, Call, Names};
+use crate::call::{call, Call, Given};
 use crate::lent::Hex;
 use crate::tally::Tally;
 
@@ -19,14 +19,6 @@ pub struct Lookup<'a> {
     pub record: Hex<'a, u8>,
     path: Hex<'a, u32>,
 }
-
-/// The place of a value and its length.
-#[derive(Debug)]
-pub struct Find<'a>(pub Lookup<'a>);
-
-/// Its bytes.
-#[derive(Debug)]
-pub struct Value<'a>(pub Lookup<'a>);
 
 /// The Rust's tag of a number; none where it is above all of them. Each way to make it has to give the same.
 pub fn tag(number: &u32) -> Option<Tag> {
@@ -42,6 +34,14 @@ pub fn tag(number: &u32) -> Option<Tag> {
     };
     assert!(same, "the Rust's tags part: {number:X}");
     Some(tag)
+}
+
+/// The record and the path.
+impl Given for Lookup<'_> {
+    fn read(&self) -> Vec<u8> {
+        let path = self.path.iter().flat_map(|number| number.to_be_bytes());
+        self.record.iter().copied().chain(path).collect()
+    }
 }
 
 impl<'a> Lookup<'a> {
@@ -75,12 +75,6 @@ impl<'a> Lookup<'a> {
         self.path.iter().all(|&number| number <= 0xFF_FFFF)
     }
 
-    /// What was lent to be read: the record and the path.
-    fn read(&self) -> Vec<u8> {
-        let path = self.path.iter().flat_map(|number| number.to_be_bytes());
-        self.record.iter().copied().chain(path).collect()
-    }
-
     /// Holds both to a place and bytes that are written down, or a refusal, under a name of its own, and compares them.
     pub fn written(
         self,
@@ -89,53 +83,43 @@ impl<'a> Lookup<'a> {
         answer: Result<(usize, &[u8]), u8>,
     ) {
         let part = answer.map(|(place, value)| [place as u64, value.len() as u64].into());
-        Find(self).written(tally, operation, &part, 0);
-        let value = answer.map(|(_, value)| Some(value).into());
+        find(self).written(tally, operation, &part, 0);
+        let bytes = answer.map(|(_, bytes)| Some(bytes.into()).into());
         let to_len = answer.map_or(2, |(_, value)| value.len() + 2);
-        Value(self).written(tally, operation, &value, to_len);
+        value(self).written(tally, operation, &bytes, to_len);
     }
 }
 
-impl Call<LOOKUP_NUMBERS> for Find<'_> {
-    fn names(&self, _: usize, answer: &Answer<LOOKUP_NUMBERS>) -> Names {
-        match self.0.reading {
-            CRATE_READING if !self.0.has_rust() => (ABOVE, &[]),
-            reading => LOOKUP.of(reading, answer.is_ok()),
-        }
-    }
-
-    fn read(&self) -> Vec<u8> {
-        self.0.read()
-    }
-
-    fn ours(&self, _: &mut [u8], out: &mut [u64]) -> Reply {
-        gorvisclen::get_data_object(self.0.reading, &self.0.record, &self.0.path, out)
-    }
-
-    fn rust(&self, _: usize) -> Answer<'_, LOOKUP_NUMBERS> {
-        let part = self.0.found()?;
-        Ok([part.start as u64, part.len() as u64].into())
-    }
+/// The place of a value and its length.
+pub fn find(lookup: Lookup<'_>) -> impl Call<LOOKUP_NUMBERS> + '_ {
+    call(
+        (ABOVE, &[]),
+        lookup,
+        |lookup, _, out| {
+            gorvisclen::get_data_object(lookup.reading, &lookup.record, &lookup.path, out)
+        },
+        |lookup, _| {
+            let part = lookup.found()?;
+            Ok([part.start as u64, part.len() as u64].into())
+        },
+    )
+    .counted(|lookup, _, answer| {
+        let above = lookup.reading == CRATE_READING && !lookup.has_rust();
+        (!above).then_some(LOOKUP.of(lookup.reading, answer.is_ok()))
+    })
 }
 
-impl Call<1> for Value<'_> {
-    fn names(&self, _: usize, _: &Answer<1>) -> Names {
-        match self.0.reading {
-            CRATE_READING if self.0.has_rust() => (VALUE, &[]),
-            CRATE_READING => (ABOVE_VALUE, &[]),
-            _ => (STANDARD_VALUE, &[]),
-        }
-    }
-
-    fn read(&self) -> Vec<u8> {
-        self.0.read()
-    }
-
-    fn ours(&self, to: &mut [u8], out: &mut [u64]) -> Reply {
-        gorvisclen::value(self.0.reading, &self.0.record, &self.0.path, to, out)
-    }
-
-    fn rust(&self, _: usize) -> Answer<'_, 1> {
-        Ok(Some(&self.0.record[self.0.found()?]).into())
-    }
+/// Its bytes.
+pub fn value(lookup: Lookup<'_>) -> impl Call<1> + '_ {
+    let name = match lookup.reading {
+        CRATE_READING if lookup.has_rust() => VALUE,
+        CRATE_READING => ABOVE_VALUE,
+        _ => STANDARD_VALUE,
+    };
+    call(
+        (name, &[]),
+        lookup,
+        |lookup, to, out| gorvisclen::value(lookup.reading, &lookup.record, &lookup.path, to, out),
+        |lookup, _| Ok(Some(lookup.record[lookup.found()?].into()).into()),
+    )
 }

@@ -8,7 +8,7 @@ use gorvisclen::CRATE_READING;
 use super::front::{Front, Len, Object, Tag};
 use super::lookup::Lookup;
 use super::records::{bytes_of, length_forms};
-use super::writing::{self, three_bytes, Put};
+use super::writing::{self, put, three_bytes};
 use crate::call::{Call, Left};
 use crate::inputs::Inputs;
 use crate::record::{damaged, three, File, Filling, Recorded, Text};
@@ -223,7 +223,7 @@ fn add_write(file: &mut File, inputs: &mut Inputs, tag: [u8; 3], len: usize) {
     let value = Text::some(inputs, len);
     let object = writing::Object::of(tag, &value.bytes);
     let told = |left: Left<1>, answer: Recorded| answer.string(&left.bytes);
-    let answer = Recorded::of(Put { object, at: 0 }.rust(len + 6), told);
+    let answer = Recorded::of(put(object, 0).rust(len + 6), told);
     file.add(10, &value, &tag, answer);
 }
 

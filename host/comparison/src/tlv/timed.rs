@@ -8,9 +8,9 @@ use original::command::DataStream;
 use original::tlv::{get_data_object, Tag};
 
 use super::front::{self, place_of, Front};
-use super::lookup::{tag, Find, Lookup, Value};
+use super::lookup::{find, tag, value, Lookup};
 use super::records::{bytes_of, length_forms};
-use super::writing::{Object, Put};
+use super::writing::{put, Object};
 use crate::call::Call;
 use crate::timing::{apart, check, told, Lines, Size, NO_LIMIT};
 
@@ -70,7 +70,7 @@ fn fronts(lines: &mut Lines) {
     front(lines, "take_data_object", front::Object, &objects);
 }
 
-fn put(object: &Object, to: &mut [u8], out: &mut [u64]) -> u8 {
+fn put_by_rust(object: &Object, to: &mut [u8], out: &mut [u64]) -> u8 {
     let len = to.len();
     let mut rest = to;
     let done = object.rust().to_writer(&mut rest);
@@ -85,8 +85,8 @@ fn writing(lines: &mut Lines, words: &str, n: usize) {
     lines.sides(
         (&format!("put_data_object, {words}"), NO_LIMIT),
         Size { to, out, bytes },
-        (&[object], &[Put { object, at: 0 }]),
-        |object, to, out| apart(|| put(object, to, out)),
+        (&[object], &[put(object, 0)]),
+        |object, to, out| apart(|| put_by_rust(object, to, out)),
         |put, to, out| told(put.ours(to, out)),
     );
 }
@@ -134,7 +134,7 @@ impl<'a> Sample<'a> {
     /// Our lookup, and the part of the record that it tells.
     #[inline(always)]
     fn slice(&self, to: &mut [u8], out: &mut [u64]) -> Option<&'a [u8]> {
-        Find(self.lookup).ours(to, out).ok()?;
+        find(self.lookup).ours(to, out).ok()?;
         let record = self.lookup.record.0;
         record.get(out[0] as usize..)?.get(..out[1] as usize)
     }
@@ -147,7 +147,7 @@ fn copying(lines: &mut Lines, words: &str, n: usize) {
     lines.sides(
         (&format!("value copied, {words}"), NO_LIMIT),
         Size { to, out, bytes },
-        (&[sample], &[Value(sample.lookup)]),
+        (&[sample], &[value(sample.lookup)]),
         |sample, to, out| apart(|| copy(sample, to, out)),
         |value, to, out| told(value.ours(to, out)),
     );
@@ -192,9 +192,11 @@ fn lookups(lines: &mut Lines, name: &str, samples: &[Sample]) {
         out: LOOKUP_NUMBERS,
         bytes: samples.iter().map(walked).max().unwrap(),
     };
-    let finds: Vec<Find> = samples.iter().map(|sample| Find(sample.lookup)).collect();
-    let ours = |find: &Find, to: &mut [u8], out: &mut [u64]| told(find.ours(to, out));
-    lines.sides((name, MOST), size, (samples, &finds), place, ours);
+    let finds: Vec<_> = samples.iter().map(|sample| find(sample.lookup)).collect();
+    let sides = (samples, &finds[..]);
+    lines.sides((name, MOST), size, sides, place, |find, to, out| {
+        told(find.ours(to, out))
+    });
     let name = format!("{name}, as a slice");
     for sample in samples {
         let part = |value: Option<&[u8]>| value.map(|value| (value.as_ptr(), value.len()));

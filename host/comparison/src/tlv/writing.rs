@@ -1,6 +1,6 @@
 //! Objects written into buffers.
 
-use gorvisclen::{Reply, STANDARD_READING};
+use gorvisclen::STANDARD_READING;
 use original::command::{BufferFull, DataSource, DataStream};
 use original::tlv::{Tag, Tlv};
 use original::Data;
@@ -8,7 +8,7 @@ use original::Data;
 use super::front::{self, Front};
 use super::lookup::Lookup;
 use super::records::length_forms;
-use crate::call::{Answer, Call, Left, Names};
+use crate::call::{call, Call, Given, Left};
 use crate::inputs::Inputs;
 use crate::lent::{places_past, Hex};
 use crate::tally::Tally;
@@ -38,46 +38,39 @@ pub struct Object<'a> {
     pub value: Hex<'a, u8>,
 }
 
-/// An object written into a buffer from a place.
-#[derive(Debug)]
-pub struct Put<'a> {
-    pub object: Object<'a>,
-    pub at: usize,
+impl Given for Object<'_> {
+    fn read(&self) -> Vec<u8> {
+        [&self.tag, self.value.0].concat()
+    }
 }
 
-impl Call<1> for Put<'_> {
-    fn names(&self, to_len: usize, _: &Answer<1>) -> Names {
-        match self.object.value.len() {
-            0..=65_535 if self.at > to_len => (PAST, &[]),
-            0..=65_535 => (WRITE, &[]),
-            _ => (TOO_LONG, &[]),
-        }
-    }
-
-    fn read(&self) -> Vec<u8> {
-        [&self.object.tag, self.object.value.0].concat()
-    }
-
-    fn ours(&self, to: &mut [u8], out: &mut [u64]) -> Reply {
-        let Object { tag, value } = self.object;
-        gorvisclen::put_data_object(tag, &value, to, self.at, out)
-    }
-
-    /// The Rust writes to as much as there is behind the place.
-    fn rust(&self, to_len: usize) -> Answer<'_, 1> {
-        let object = self.object.rust();
-        if self.object.too_long() {
-            return Err(19);
-        }
-        let mut written = vec![0; to_len.checked_sub(self.at).ok_or(16)?];
-        let mut rest = &mut written[..];
-        object.to_writer(&mut rest).map_err(|_| 16)?;
-        let n = to_len - self.at - rest.len();
-        assert_eq!(n, DataSource::len(&object));
-        assert!(!object.is_empty());
-        written.truncate(n);
-        Ok(Left::written([n as u64], self.at, written))
-    }
+/// An object written into a buffer from a place. The Rust writes to as much as there is behind the place.
+pub fn put(object: Object<'_>, at: usize) -> impl Call<1> + '_ {
+    let too_long = object.value.len() > 65_535;
+    call(
+        (if too_long { TOO_LONG } else { WRITE }, &[]),
+        (object, at),
+        |&(Object { tag, value }, at), to, out| {
+            gorvisclen::put_data_object(tag, &value, to, at, out)
+        },
+        |&(object, at), to_len| {
+            if object.too_long() {
+                return Err(19);
+            }
+            let mut written = vec![0; to_len.checked_sub(at).ok_or(16)?];
+            let mut rest = &mut written[..];
+            object.rust().to_writer(&mut rest).map_err(|_| 16)?;
+            let n = to_len - at - rest.len();
+            assert_eq!(n, DataSource::len(&object.rust()));
+            assert!(!object.rust().is_empty());
+            written.truncate(n);
+            Ok(Left::written([n as u64], at, written))
+        },
+    )
+    .counted(|(object, at), to_len, _| {
+        let past = *at > to_len && object.value.len() <= 65_535;
+        past.then_some((PAST, &[]))
+    })
 }
 
 impl<'a> Object<'a> {
@@ -103,7 +96,7 @@ impl<'a> Object<'a> {
 
     /// Compares the writing into a buffer of a length, from a place.
     fn write(self, tally: &mut Tally, buffer_len: usize, at: usize, len: usize) {
-        Put { object: self, at }.compare(tally, buffer_len, len);
+        put(self, at).compare(tally, buffer_len, len);
     }
 
     /// Buffers that it fits exactly from a place, that are a byte short and a byte longer; and places around the end.
