@@ -12,6 +12,7 @@ pub use self::timed::time;
 use crate::call::{call, Call, Given};
 use crate::inputs::Inputs;
 use crate::lent::Hex;
+use crate::loops::pairs;
 use crate::panics::unless_it_panics;
 use crate::tally::Tally;
 
@@ -224,33 +225,30 @@ fn every_first_byte(tally: &mut Tally, inputs: &mut Inputs) {
 
 /// Lengths and truncated lengths far above, where a number cut to a byte or to two would show.
 fn far_above(tally: &mut Tally, inputs: &mut Inputs) {
-    for len in [5, 16, 18, 255, 256, 261, 272, 65_541] {
-        for first in [0xA0, 0xD2, 0xE8, 0xF0, 0x00] {
-            let name = name_of(inputs, first, len);
-            for truncated_len in [5, 255, 256, 261, 65_536, 65_541, usize::MAX] {
-                Case::of(&name, truncated_len).every_operation(tally, inputs);
-            }
+    for (len, first) in pairs(
+        [5, 16, 18, 255, 256, 261, 272, 65_541],
+        [0xA0, 0xD2, 0xE8, 0xF0, 0x00],
+    ) {
+        let name = name_of(inputs, first, len);
+        for truncated_len in [5, 255, 256, 261, 65_536, 65_541, usize::MAX] {
+            Case::of(&name, truncated_len).every_operation(tally, inputs);
         }
     }
 }
 
 /// Each category with `out` of every length to 12, and each part with `to` of every length to 17.
 fn every_room(tally: &mut Tally, inputs: &mut Inputs) {
-    for first in [0xA0, 0xD2, 0xE8, 0xF0, 0x00] {
-        for len in 0..=17 {
-            let name = name_of(inputs, first, len);
-            for truncated_len in 0..=18 {
-                let case = Case::of(&name, truncated_len);
-                for out_len in 0..=12 {
-                    make(case).compare_numbers(tally, out_len);
-                    make_whole(&name).compare_numbers(tally, out_len);
-                }
-                for number in [0, 1, 2, 3, 255] {
-                    for to_len in 0..=17 {
-                        part(case, number).compare(tally, to_len, 1);
-                        part(case, number).compare(tally, to_len, inputs.below(3));
-                    }
-                }
+    for (first, len) in pairs([0xA0, 0xD2, 0xE8, 0xF0, 0x00], 0..=17) {
+        let name = name_of(inputs, first, len);
+        for truncated_len in 0..=18 {
+            let case = Case::of(&name, truncated_len);
+            for out_len in 0..=12 {
+                make(case).compare_numbers(tally, out_len);
+                make_whole(&name).compare_numbers(tally, out_len);
+            }
+            for (number, to_len) in pairs([0, 1, 2, 3, 255], 0..=17) {
+                part(case, number).compare(tally, to_len, 1);
+                part(case, number).compare(tally, to_len, inputs.below(3));
             }
         }
     }

@@ -23,6 +23,7 @@ pub use self::timed::time;
 use crate::call::Call;
 use crate::inputs::Inputs;
 use crate::lent::places_past;
+use crate::loops::{pairs, triples};
 use crate::tally::Tally;
 
 /// Both lengths, with `out` long enough and too short.
@@ -128,16 +129,12 @@ fn every_operation(tally: &mut Tally, inputs: &mut Inputs, asked: Asked) {
 /// Lengths of data and expected lengths around each boundary, in every mode.
 fn every_boundary(tally: &mut Tally, inputs: &mut Inputs) {
     let row = inputs.bytes(65_535);
-    for n in SHORT.into_iter().chain(LONG) {
-        for le in EXPECTED {
-            for mode in MODES {
-                for _ in 0..if n < 1_000 { 4 } else { 1 } {
-                    let header = some_header(inputs);
-                    let start = inputs.below(65_536 - n);
-                    let asked = Asked::new(header, le, mode, &row[start..start + n]);
-                    every_operation(tally, inputs, asked);
-                }
-            }
+    for (n, le, mode) in triples(SHORT.into_iter().chain(LONG), EXPECTED, MODES) {
+        for _ in 0..if n < 1_000 { 4 } else { 1 } {
+            let header = some_header(inputs);
+            let start = inputs.below(65_536 - n);
+            let asked = Asked::new(header, le, mode, &row[start..start + n]);
+            every_operation(tally, inputs, asked);
         }
     }
 }
@@ -145,14 +142,10 @@ fn every_boundary(tally: &mut Tally, inputs: &mut Inputs) {
 /// Long commands from a place that is far behind.
 fn far_places(tally: &mut Tally, inputs: &mut Inputs) {
     let row = inputs.bytes(65_535);
-    for n in [0, 256, 65_535] {
-        for le in [0, 256, EXPECTED_MAX] {
-            for mode in MODES {
-                let asked = Asked::new(HEADERS[1], le, mode, &row[..n]);
-                for before in [255, 65_532, 66_000] {
-                    around_the_end(tally, inputs, asked, before);
-                }
-            }
+    for (n, le, mode) in triples([0, 256, 65_535], [0, 256, EXPECTED_MAX], MODES) {
+        let asked = Asked::new(HEADERS[1], le, mode, &row[..n]);
+        for before in [255, 65_532, 66_000] {
+            around_the_end(tally, inputs, asked, before);
         }
     }
 }
@@ -161,19 +154,15 @@ fn far_places(tally: &mut Tally, inputs: &mut Inputs) {
 fn every_expected_length(tally: &mut Tally, inputs: &mut Inputs) {
     let header = HEADERS[0];
     let row = inputs.bytes(256);
-    for le in 0..=65_540 {
-        for mode in MODES {
-            for n in [0, 1, 255, 256] {
-                let asked = Asked::new(header, le, mode, &row[..n]);
-                length(asked).compare_numbers(tally, 1);
-                if n < 2 {
-                    write(asked, 1).compare(tally, 12, 1);
-                    read_back(tally, asked, 0);
-                }
-                if mode > 0 || le % 64 == 0 {
-                    force(asked).compare_numbers(tally, 1);
-                }
-            }
+    for (le, mode, n) in triples(0..=65_540, MODES, [0, 1, 255, 256]) {
+        let asked = Asked::new(header, le, mode, &row[..n]);
+        length(asked).compare_numbers(tally, 1);
+        if n < 2 {
+            write(asked, 1).compare(tally, 12, 1);
+            read_back(tally, asked, 0);
+        }
+        if mode > 0 || le % 64 == 0 {
+            force(asked).compare_numbers(tally, 1);
         }
     }
 }
@@ -183,15 +172,11 @@ fn every_length(tally: &mut Tally, inputs: &mut Inputs) {
     let header = HEADERS[1];
     let row = inputs.bytes(65_540);
     let before = row.clone();
-    for n in 0..=65_540 {
-        for mode in MODES {
-            for le in [0, 1, 256, 257, EXPECTED_MAX] {
-                let asked = Asked::new(header, le, mode, &row[..n]);
-                length(asked).compare_unread(tally, 1);
-                if mode > 0 {
-                    force(asked).compare_unread(tally, 1);
-                }
-            }
+    for (n, mode, le) in triples(0..=65_540, MODES, [0, 1, 256, 257, EXPECTED_MAX]) {
+        let asked = Asked::new(header, le, mode, &row[..n]);
+        length(asked).compare_unread(tally, 1);
+        if mode > 0 {
+            force(asked).compare_unread(tally, 1);
         }
     }
     assert!(*black_box(&row) == before, "a call changed data");
@@ -200,61 +185,52 @@ fn every_length(tally: &mut Tally, inputs: &mut Inputs) {
 /// Every mode byte.
 fn every_mode(tally: &mut Tally, inputs: &mut Inputs) {
     let row = inputs.bytes(256);
-    for mode in 0..=255 {
-        for n in [0, 1, 255, 256] {
-            for le in [0, 1, 256, 257, 65_535, EXPECTED_MAX] {
-                let asked = Asked::new(some_header(inputs), le, mode, &row[..n]);
-                every_operation(tally, inputs, asked);
-            }
-        }
+    for (mode, n, le) in triples(
+        0..=255,
+        [0, 1, 255, 256],
+        [0, 1, 256, 257, 65_535, EXPECTED_MAX],
+    ) {
+        let asked = Asked::new(some_header(inputs), le, mode, &row[..n]);
+        every_operation(tally, inputs, asked);
     }
 }
 
 /// Every byte in each place of the header.
 fn every_header(tally: &mut Tally, inputs: &mut Inputs) {
-    for i in 0..4 {
-        for byte in 0..=255 {
-            for mode in MODES {
-                let mut header = [0x00, 0xA4, 0x04, 0x0C];
-                header[i] = byte;
-                let n = inputs.below(4);
-                let data = &inputs.bytes(n);
-                let le = some_expected(inputs);
-                let asked = Asked::new(header, le, mode, data);
-                every_operation(tally, inputs, asked);
-            }
-        }
+    for (i, byte, mode) in triples(0..4, 0..=255, MODES) {
+        let mut header = [0x00, 0xA4, 0x04, 0x0C];
+        header[i] = byte;
+        let n = inputs.below(4);
+        let data = &inputs.bytes(n);
+        let le = some_expected(inputs);
+        let asked = Asked::new(header, le, mode, data);
+        every_operation(tally, inputs, asked);
     }
 }
 
 /// Every two bytes in each place of the header, one to build and one that was read.
 fn every_two_bytes(tally: &mut Tally) {
-    for i in 0..4 {
-        for both in 0..=u16::MAX {
-            let [mut header, mut other] = [HEADERS[0]; 2];
-            [header[i], other[i]] = both.to_be_bytes();
-            let asked = Asked::new(header, 5, EXTENDED_SUPPORTED, &[0x24]);
-            let apdu = model::command(other, 5, EXTENDED_SUPPORTED, &[0x24]);
-            equals(asked, &apdu).compare_numbers(tally, 1);
-        }
+    for (i, both) in pairs(0..4, 0..=u16::MAX) {
+        let [mut header, mut other] = [HEADERS[0]; 2];
+        [header[i], other[i]] = both.to_be_bytes();
+        let asked = Asked::new(header, 5, EXTENDED_SUPPORTED, &[0x24]);
+        let apdu = model::command(other, 5, EXTENDED_SUPPORTED, &[0x24]);
+        equals(asked, &apdu).compare_numbers(tally, 1);
     }
 }
 
 /// Small buffers: every place from the beginning to past the end, `out` of every length to 2.
 fn every_place(tally: &mut Tally, inputs: &mut Inputs) {
-    for mode in MODES {
-        for n in [0, 1, 5] {
-            for le in [0, 1, 256, 257, EXPECTED_MAX] {
-                let data = &inputs.bytes(n);
-                let header = HEADERS[inputs.below(HEADERS.len() - 1)];
-                let asked = Asked::new(header, le, mode, data);
-                for buffer_len in 0..=16 {
-                    for at in (0..=buffer_len + 3).chain([usize::MAX - 1, usize::MAX]) {
-                        for len in 0..=2 {
-                            write(asked, at).compare(tally, buffer_len, len);
-                        }
-                    }
-                }
+    for (mode, n, le) in triples(MODES, [0, 1, 5], [0, 1, 256, 257, EXPECTED_MAX]) {
+        let data = &inputs.bytes(n);
+        let header = HEADERS[inputs.below(HEADERS.len() - 1)];
+        let asked = Asked::new(header, le, mode, data);
+        for buffer_len in 0..=16 {
+            for (at, len) in pairs(
+                (0..=buffer_len + 3).chain([usize::MAX - 1, usize::MAX]),
+                0..=2,
+            ) {
+                write(asked, at).compare(tally, buffer_len, len);
             }
         }
     }
@@ -264,18 +240,19 @@ fn every_place(tally: &mut Tally, inputs: &mut Inputs) {
 /// every 1,021st between them.
 fn every_place_at_a_boundary(tally: &mut Tally, inputs: &mut Inputs) {
     let row = inputs.bytes(65_535);
-    for n in [0, 1, 254, 255, 256, 257, 65_535] {
-        for (mode, le) in [(0, 5), (1, 0), (1, 256), (1, 257), (2, EXPECTED_MAX)] {
-            let asked = Asked::new(HEADERS[1], le, mode, &row[..n]);
-            let need = asked.len_in(mode);
-            for buffer_len in [need - 1, need, need + 3] {
-                for at in 0..=buffer_len + 3 {
-                    let inner = at > 16 && at + 16 < buffer_len;
-                    if n > 257 && inner && at % 1_021 != 0 {
-                        continue;
-                    }
-                    write(asked, at).compare(tally, buffer_len, 1);
+    for (n, (mode, le)) in pairs(
+        [0, 1, 254, 255, 256, 257, 65_535],
+        [(0, 5), (1, 0), (1, 256), (1, 257), (2, EXPECTED_MAX)],
+    ) {
+        let asked = Asked::new(HEADERS[1], le, mode, &row[..n]);
+        let need = asked.len_in(mode);
+        for buffer_len in [need - 1, need, need + 3] {
+            for at in 0..=buffer_len + 3 {
+                let inner = at > 16 && at + 16 < buffer_len;
+                if n > 257 && inner && at % 1_021 != 0 {
+                    continue;
                 }
+                write(asked, at).compare(tally, buffer_len, 1);
             }
         }
     }
@@ -302,25 +279,17 @@ fn too_long(tally: &mut Tally, inputs: &mut Inputs, header: [u8; 4], mode: u8, d
 /// Lengths that are too long, in every mode.
 fn every_too_long(tally: &mut Tally, inputs: &mut Inputs) {
     let row = inputs.bytes(131_072);
-    for n in TOO_LONG {
-        for mode in MODES {
-            for header in [HEADERS[0], HEADERS[5]] {
-                too_long(tally, inputs, header, mode, &row[..n]);
-            }
-        }
+    for (n, mode, header) in triples(TOO_LONG, MODES, [HEADERS[0], HEADERS[5]]) {
+        too_long(tally, inputs, header, mode, &row[..n]);
     }
 }
 
 /// Each refusal of a command read beside builders that are made and that are not.
 fn every_refused(tally: &mut Tally) {
-    for apdu in REFUSED {
-        for header in HEADERS {
-            for mode in MODES {
-                for len in 0..=2 {
-                    let asked = Asked::new(header, 0, mode, &[]);
-                    equals(asked, apdu).compare_numbers(tally, len);
-                }
-            }
+    for (apdu, header, mode) in triples(REFUSED, HEADERS, MODES) {
+        for len in 0..=2 {
+            let asked = Asked::new(header, 0, mode, &[]);
+            equals(asked, apdu).compare_numbers(tally, len);
         }
     }
 }

@@ -16,6 +16,7 @@ use self::standard::CASES;
 pub use self::timed::time;
 use crate::call::Call;
 use crate::inputs::Inputs;
+use crate::loops::pairs;
 use crate::tally::Tally;
 
 /// A command of each of the seven cases; one that only the standard reading refuses; refused ones.
@@ -142,24 +143,22 @@ fn every_short_body(tally: &mut Tally, inputs: &mut Inputs) {
         &[0x00, 0xA4, 0x04],
         &[0xFF, 0xFF, 0xFF],
     ];
-    for header in headers {
-        for body in 0..1 + 256 + 65_536 {
-            let body = match body {
-                0 => Vec::new(),
-                1..=256 => vec![(body - 1) as u8],
-                _ => ((body - 257) as u16).to_be_bytes().to_vec(),
-            };
-            let apdu = &[header, &body].concat();
-            for reading in [CRATE_READING, STANDARD_READING] {
-                let asked = Asked::of(reading, apdu);
-                parse(asked).compare_numbers(tally, COMMAND_NUMBERS);
-                data(asked).compare(tally, inputs.below(3), 1);
-                own(asked).compare(tally, ROOMS[inputs.below(3)].len, OWNED_NUMBERS);
-            }
-            let room = &ROOMS[inputs.below(3)];
-            let out_len = OWNED_NUMBERS;
-            (room.extended)(tally, room.len / 2, &[Piece { apdu, out_len }]);
+    for (header, body) in pairs(headers, 0..1 + 256 + 65_536) {
+        let body = match body {
+            0 => Vec::new(),
+            1..=256 => vec![(body - 1) as u8],
+            _ => ((body - 257) as u16).to_be_bytes().to_vec(),
+        };
+        let apdu = &[header, &body].concat();
+        for reading in [CRATE_READING, STANDARD_READING] {
+            let asked = Asked::of(reading, apdu);
+            parse(asked).compare_numbers(tally, COMMAND_NUMBERS);
+            data(asked).compare(tally, inputs.below(3), 1);
+            own(asked).compare(tally, ROOMS[inputs.below(3)].len, OWNED_NUMBERS);
         }
+        let room = &ROOMS[inputs.below(3)];
+        let out_len = OWNED_NUMBERS;
+        (room.extended)(tally, room.len / 2, &[Piece { apdu, out_len }]);
     }
 }
 
@@ -178,12 +177,10 @@ fn every_header(tally: &mut Tally, inputs: &mut Inputs) {
 
 /// Every expected length of two bytes, behind no data, an extended Lc of zero, and one byte of data.
 fn every_expected_length(tally: &mut Tally) {
-    for le in 0..=u16::MAX {
-        for front in [&[0][..], &[0, 0, 0], &[0, 0, 1, 0xAA]] {
-            let apdu = &[&[0x00, 0xC0, 0x00, 0x00], front, &le.to_be_bytes()].concat();
-            for reading in [CRATE_READING, STANDARD_READING] {
-                parse(Asked::of(reading, apdu)).compare_numbers(tally, COMMAND_NUMBERS);
-            }
+    for (le, front) in pairs(0..=u16::MAX, [&[0][..], &[0, 0, 0], &[0, 0, 1, 0xAA]]) {
+        let apdu = &[&[0x00, 0xC0, 0x00, 0x00], front, &le.to_be_bytes()].concat();
+        for reading in [CRATE_READING, STANDARD_READING] {
+            parse(Asked::of(reading, apdu)).compare_numbers(tally, COMMAND_NUMBERS);
         }
     }
 }
@@ -219,17 +216,15 @@ fn every_boundary(tally: &mut Tally, inputs: &mut Inputs) {
     let lengths = (0..=8).chain(246..=262).chain(65_526..=65_545);
     for l in lengths {
         let mut apdu = inputs.bytes(4 + l);
-        for field in fields_lc(l) {
-            for le in [0, 1, 255, 256, 65_535_u16] {
-                if l >= 2 {
-                    apdu[2 + l..].copy_from_slice(&le.to_be_bytes());
-                }
-                // Where the body is too short for both, Lc lies over Le.
-                let len = field.len().min(l);
-                apdu[4..4 + len].copy_from_slice(&field[..len]);
-                apdu[0] = if inputs.below(16) == 0 { 0xFF } else { 0x80 };
-                every_operation(tally, inputs, &apdu);
+        for (field, le) in pairs(fields_lc(l), [0, 1, 255, 256, 65_535_u16]) {
+            if l >= 2 {
+                apdu[2 + l..].copy_from_slice(&le.to_be_bytes());
             }
+            // Where the body is too short for both, Lc lies over Le.
+            let len = field.len().min(l);
+            apdu[4..4 + len].copy_from_slice(&field[..len]);
+            apdu[0] = if inputs.below(16) == 0 { 0xFF } else { 0x80 };
+            every_operation(tally, inputs, &apdu);
         }
     }
 }

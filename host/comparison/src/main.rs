@@ -26,6 +26,7 @@ mod command;
 mod inputs;
 mod jobs;
 mod lent;
+mod loops;
 mod panics;
 mod reassembler;
 mod record;

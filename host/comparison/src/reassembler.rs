@@ -20,6 +20,7 @@ pub use self::timed::time;
 use crate::call::Call;
 use crate::inputs::Inputs;
 use crate::lent::bytes;
+use crate::loops::triples;
 use crate::tally::Tally;
 
 /// Any record, with any number of bytes held.
@@ -131,20 +132,16 @@ fn short_pieces(tally: &mut Tally) {
 
 /// Every pair of class bytes, of the record and of the piece; and the same of each other byte of the header.
 fn headers(tally: &mut Tally) {
-    for at in 0..4 {
-        for ours in 0..=255 {
-            for theirs in 0..=255 {
-                let (mut header, mut piece) = (HEADERS[0], HEADERS[0]);
-                (header[at], piece[at]) = (ours, theirs);
-                let record = Reassembler {
-                    opened: 1,
-                    header,
-                    held: 2,
-                };
-                let piece = [&piece[..], &[1, 0xAA]].concat();
-                join(record, &piece).compare(tally, 3, JOIN_NUMBERS);
-            }
-        }
+    for (at, ours, theirs) in triples(0..4, 0..=255, 0..=255) {
+        let (mut header, mut piece) = (HEADERS[0], HEADERS[0]);
+        (header[at], piece[at]) = (ours, theirs);
+        let record = Reassembler {
+            opened: 1,
+            header,
+            held: 2,
+        };
+        let piece = [&piece[..], &[1, 0xAA]].concat();
+        join(record, &piece).compare(tally, 3, JOIN_NUMBERS);
     }
 }
 

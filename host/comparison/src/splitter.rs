@@ -18,6 +18,7 @@ pub use self::timed::time;
 use crate::builder::Asked;
 use crate::call::Call;
 use crate::inputs::Inputs;
+use crate::loops::triples;
 use crate::tally::Tally;
 
 /// Headers; the last one of a class that is refused, and before it one whose pieces are of that class.
@@ -46,7 +47,7 @@ const EXPECTED: [u32; 10] = [
 ];
 
 /// Buffers around each boundary.
-fn buffers() -> impl Iterator<Item = usize> {
+fn buffers() -> impl Iterator<Item = usize> + Clone {
     (0..=12)
         .chain(255..=265)
         .chain(65_530..=65_545)
@@ -54,7 +55,7 @@ fn buffers() -> impl Iterator<Item = usize> {
 }
 
 /// Lengths of data around each boundary; the last five are too long.
-fn lengths() -> impl Iterator<Item = usize> {
+fn lengths() -> impl Iterator<Item = usize> + Clone {
     (0..=12).chain(250..=260).chain(65_520..=65_540)
 }
 
@@ -97,21 +98,17 @@ fn step_under(tally: &mut Tally, most: usize, asked: Asked, available: usize, le
 fn every_boundary(tally: &mut Tally, inputs: &mut Inputs) {
     let row = inputs.bytes(65_540);
     let before = row.clone();
-    for n in lengths() {
-        for available in buffers() {
-            for le in EXPECTED {
-                for mode in 0..3 {
-                    let asked = Asked::new(some_header(inputs), le, mode, &row[..n]);
-                    let len = SPLIT_NUMBERS + inputs.below(2);
-                    step_under(tally, 300, asked, available, len);
-                    if inputs.below(8) == 0 {
-                        let len = inputs.below(SPLIT_NUMBERS);
-                        step(asked, available).compare_unread(tally, len);
-                    }
-                    if available > 12 && n <= 65_535 && (n < 300 || inputs.below(64) == 0) {
-                        parts(tally, asked, available);
-                    }
-                }
+    for (n, available, le) in triples(lengths(), buffers(), EXPECTED) {
+        for mode in 0..3 {
+            let asked = Asked::new(some_header(inputs), le, mode, &row[..n]);
+            let len = SPLIT_NUMBERS + inputs.below(2);
+            step_under(tally, 300, asked, available, len);
+            if inputs.below(8) == 0 {
+                let len = inputs.below(SPLIT_NUMBERS);
+                step(asked, available).compare_unread(tally, len);
+            }
+            if available > 12 && n <= 65_535 && (n < 300 || inputs.below(64) == 0) {
+                parts(tally, asked, available);
             }
         }
     }
@@ -148,19 +145,19 @@ fn every_small_step(tally: &mut Tally, inputs: &mut Inputs) {
 /// Every class byte, and every mode byte.
 fn every_class_and_mode(tally: &mut Tally, inputs: &mut Inputs) {
     let row = inputs.bytes(300);
-    for byte in 0..=u8::MAX {
-        for n in [0, 1, 5, 255, 256, 300] {
-            for available in [9, 10, 12, 100, 261, 400] {
-                let le = some_expected(inputs);
-                let header = [byte, byte ^ 0x55, byte.wrapping_add(1), 0];
-                for mode in [0, 1, 2, byte] {
-                    let asked = Asked::new(header, le, mode, &row[..n]);
-                    step(asked, available).compare_numbers(tally, SPLIT_NUMBERS);
-                }
-                let asked = chains::Asked::new(header, &row[..n], le as u16, available);
-                asked.cut(tally, (1, 1), 5);
-            }
+    for (byte, n, available) in triples(
+        0..=u8::MAX,
+        [0, 1, 5, 255, 256, 300],
+        [9, 10, 12, 100, 261, 400],
+    ) {
+        let le = some_expected(inputs);
+        let header = [byte, byte ^ 0x55, byte.wrapping_add(1), 0];
+        for mode in [0, 1, 2, byte] {
+            let asked = Asked::new(header, le, mode, &row[..n]);
+            step(asked, available).compare_numbers(tally, SPLIT_NUMBERS);
         }
+        let asked = chains::Asked::new(header, &row[..n], le as u16, available);
+        asked.cut(tally, (1, 1), 5);
     }
 }
 
@@ -229,14 +226,14 @@ fn most_pieces(tally: &mut Tally, inputs: &mut Inputs) {
 /// Whole chains for every buffer from 10 to 270, and large ones.
 fn every_buffer(tally: &mut Tally, inputs: &mut Inputs) {
     let row = inputs.bytes(65_535);
-    for available in (10..=270).chain([511, 512, 65_535, 65_536, 70_000, 1 << 32, usize::MAX]) {
-        for n in [0, 1, 2, 9, 250, 254, 255, 256, 257, 510, 511, 512, 766] {
-            for le in [0, 1, 256, 257, 65_535] {
-                let header = HEADERS[inputs.below(HEADERS.len() - 1)];
-                let asked = chains::Asked::new(header, &row[..n], le, available);
-                asked.cut(tally, (inputs.below(3), inputs.below(2)), 30);
-            }
-        }
+    for (available, n, le) in triples(
+        (10..=270).chain([511, 512, 65_535, 65_536, 70_000, 1 << 32, usize::MAX]),
+        [0, 1, 2, 9, 250, 254, 255, 256, 257, 510, 511, 512, 766],
+        [0, 1, 256, 257, 65_535],
+    ) {
+        let header = HEADERS[inputs.below(HEADERS.len() - 1)];
+        let asked = chains::Asked::new(header, &row[..n], le, available);
+        asked.cut(tally, (inputs.below(3), inputs.below(2)), 30);
     }
     for _ in 0..40 {
         let (n, available) = (inputs.below(65_536), 10 + inputs.below(65_600));
@@ -249,20 +246,20 @@ fn every_buffer(tally: &mut Tally, inputs: &mut Inputs) {
 /// Chains that are not made: 3, 13, and 14 for every buffer under 10.
 fn not_made(tally: &mut Tally, inputs: &mut Inputs) {
     let row = inputs.bytes(131_072);
-    for n in lengths().chain([65_791, 65_792, 131_072]) {
-        for available in (0..=10).chain([261]) {
-            for header in [HEADERS[0], HEADERS[5], HEADERS[6]] {
-                for le in [0, 1, 257] {
-                    if n > 300 && available == 10 {
-                        continue;
-                    }
-                    let mut asked = chains::Asked::new(header, &row[..n], le, available);
-                    asked.cut(tally, (1, 1), 9);
-                    asked.chain.place = inputs.below(4);
-                    let into = (20, inputs.below(3), inputs.below(7));
-                    asked.next_at(tally, into);
-                }
+    for (n, available, header) in triples(
+        lengths().chain([65_791, 65_792, 131_072]),
+        (0..=10).chain([261]),
+        [HEADERS[0], HEADERS[5], HEADERS[6]],
+    ) {
+        for le in [0, 1, 257] {
+            if n > 300 && available == 10 {
+                continue;
             }
+            let mut asked = chains::Asked::new(header, &row[..n], le, available);
+            asked.cut(tally, (1, 1), 9);
+            asked.chain.place = inputs.below(4);
+            let into = (20, inputs.below(3), inputs.below(7));
+            asked.next_at(tally, into);
         }
     }
 }

@@ -24,6 +24,7 @@ pub use self::timed::time;
 pub use self::writing::random as random_writing;
 use crate::call::Call;
 use crate::inputs::Inputs;
+use crate::loops::{pairs, triples};
 use crate::tally::Tally;
 
 /// What the front of some bytes is read as, with `out` long enough and too short.
@@ -58,12 +59,10 @@ fn every_lookup(tally: &mut Tally, inputs: &mut Inputs, record: &[u8], path: &[u
 
 /// Every string of up to three bytes.
 fn every_short_string(tally: &mut Tally) {
-    for len in 0..=3 {
-        for reading in [CRATE_READING, STANDARD_READING] {
-            Tag.every_string(tally, reading, len);
-            Len.every_string(tally, reading, len);
-            Object.every_string(tally, reading, len);
-        }
+    for (len, reading) in pairs(0..=3, [CRATE_READING, STANDARD_READING]) {
+        Tag.every_string(tally, reading, len);
+        Len.every_string(tally, reading, len);
+        Object.every_string(tally, reading, len);
     }
 }
 
@@ -95,19 +94,15 @@ fn every_buffer(tally: &mut Tally) {
         &[0x5F, 0x80, 0x01],
     ];
     let paths: [&[u32]; 5] = [&[], &[0x5F24], &[0x70, 0x5F24], &[0x5A], &[0xDF8101]];
-    for record in records {
-        for reading in 0..=255 {
-            for len in 0..=4 {
-                Tag.compare(tally, reading, record, len);
-                Len.compare(tally, reading, record, len);
-                Object.compare(tally, reading, record, len);
-                for path in paths {
-                    let lookup = Lookup::of(reading, record, path);
-                    find(lookup).compare_numbers(tally, len);
-                    for to_len in 0..=lookup.len() + 1 {
-                        value(lookup).compare(tally, to_len, len);
-                    }
-                }
+    for (record, reading, len) in triples(records, 0..=255, 0..=4) {
+        Tag.compare(tally, reading, record, len);
+        Len.compare(tally, reading, record, len);
+        Object.compare(tally, reading, record, len);
+        for path in paths {
+            let lookup = Lookup::of(reading, record, path);
+            find(lookup).compare_numbers(tally, len);
+            for to_len in 0..=lookup.len() + 1 {
+                value(lookup).compare(tally, to_len, len);
             }
         }
     }
@@ -156,19 +151,20 @@ fn every_cut(tally: &mut Tally, inputs: &mut Inputs) {
 
 /// Long records of many small objects: the last one, at the top and in a template, one that is missing, and cut copies.
 fn long(tally: &mut Tally, inputs: &mut Inputs) {
-    for outer in [200, 60_000, 65_500, 66_000, 140_000] {
-        for inner in [20, 300, 33_000, 65_500] {
-            let record = long_record(inputs, outer, inner);
-            let [top, inside] = [&record.paths[0][..], &record.paths[1]];
-            let len = record.bytes.len();
-            let missing = [inside[0], 0x5F2A];
-            for path in [&[], top, inside, &missing, &missing[1..]] {
-                every_lookup(tally, inputs, &record.bytes, path);
-            }
-            for cut in [1, 3, 4, 7, 1 + inputs.below(len)] {
-                every_lookup(tally, inputs, &record.bytes[..len - cut], top);
-                every_lookup(tally, inputs, &record.bytes[..len - cut], inside);
-            }
+    for (outer, inner) in pairs(
+        [200, 60_000, 65_500, 66_000, 140_000],
+        [20, 300, 33_000, 65_500],
+    ) {
+        let record = long_record(inputs, outer, inner);
+        let [top, inside] = [&record.paths[0][..], &record.paths[1]];
+        let len = record.bytes.len();
+        let missing = [inside[0], 0x5F2A];
+        for path in [&[], top, inside, &missing, &missing[1..]] {
+            every_lookup(tally, inputs, &record.bytes, path);
+        }
+        for cut in [1, 3, 4, 7, 1 + inputs.below(len)] {
+            every_lookup(tally, inputs, &record.bytes[..len - cut], top);
+            every_lookup(tally, inputs, &record.bytes[..len - cut], inside);
         }
     }
 }

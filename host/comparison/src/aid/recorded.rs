@@ -5,6 +5,7 @@ use original::aid::Aid;
 
 use super::{of_aid, refusal, Case};
 use crate::inputs::Inputs;
+use crate::loops::pairs;
 use crate::record::{three, File, Recorded, Text};
 
 /// A part: its length and bytes, or the number of a part that is not there.
@@ -62,19 +63,17 @@ fn matching(file: &mut File, inputs: &mut Inputs, name: &[u8], truncated: usize)
 }
 
 pub fn record(file: &mut File, inputs: &mut Inputs) {
-    for high in 0..16 {
-        for len in [0, 1, 2, 4, 5, 6, 8, 15, 16, 17, 18] {
-            let mut name = inputs.bytes(len);
-            if let Some(first) = name.first_mut() {
-                *first = (high << 4) | (*first % 16);
-            }
-            if high >= 8 || inputs.below(3) == 0 {
-                names(file, inputs, &name);
-            }
-            if high >= 10 && (1..17).contains(&len) {
-                let truncated = inputs.below(len + 1);
-                matching(file, inputs, &name, truncated);
-            }
+    for (high, len) in pairs(0..16, [0, 1, 2, 4, 5, 6, 8, 15, 16, 17, 18]) {
+        let mut name = inputs.bytes(len);
+        if let Some(first) = name.first_mut() {
+            *first = (high << 4) | (*first % 16);
+        }
+        if high >= 8 || inputs.below(3) == 0 {
+            names(file, inputs, &name);
+        }
+        if high >= 10 && (1..17).contains(&len) {
+            let truncated = inputs.below(len + 1);
+            matching(file, inputs, &name, truncated);
         }
     }
     for len in [0, 17, 20, 100, 250] {

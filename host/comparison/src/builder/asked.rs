@@ -62,8 +62,18 @@ impl<'a> Asked<'a> {
     }
 
     /// The Rust's builder; 3 where the Rust has no such class, 13 where it panics.
-    #[inline]
+    #[inline(always)]
     pub fn made(&self) -> Result<Builder<'a>, u8> {
+        match self.mode {
+            SHORT_ONLY => self.made_apart(),
+            _ if self.data.len() > 65_535 => self.made_apart(),
+            _ => self.unchecked(),
+        }
+    }
+
+    /// The same where that takes long, or where it panics.
+    #[inline(never)]
+    fn made_apart(&self) -> Result<Builder<'a>, u8> {
         if self.data.len() <= 65_535 {
             return self.unchecked();
         }
@@ -74,7 +84,7 @@ impl<'a> Asked<'a> {
         }
     }
 
-    #[inline]
+    #[inline(always)]
     fn unchecked(&self) -> Result<Builder<'a>, u8> {
         let [class, instruction, p1, p2] = self.header;
         let class = Class::try_from(class).map_err(|_| 3)?;

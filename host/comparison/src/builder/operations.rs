@@ -69,13 +69,6 @@ pub fn length(asked: Asked<'_>) -> impl Call<1> + '_ {
 
 /// The length of a command once extended length is forced; 15 where the Rust panics.
 pub fn force(asked: Asked<'_>) -> impl Call<1> + '_ {
-    let forced = |asked: &Asked| {
-        let builder = asked.made()?;
-        match asked.mode {
-            SHORT_ONLY => unless_it_panics(|| builder.force_extended().required_len()).ok_or(15),
-            _ => Ok(builder.force_extended().required_len()),
-        }
-    };
     call(
         (asked.name(names!("CommandBuilder::force_extended")), &[]),
         asked,
@@ -87,11 +80,13 @@ pub fn force(asked: Asked<'_>) -> impl Call<1> + '_ {
          },
          _,
          out| { gorvisclen::force_extended(header, le, mode, data, out) },
-        move |asked, _| Ok([forced(asked)? as u64].into()),
+        |asked, _| Ok([asked.made()?.force_extended().required_len() as u64].into()),
     )
     .held_to(|asked, _| {
-        let len = force(*asked).rust(0)?.numbers;
-        Ok(asked.same(len, [asked.len_in(2) as u64]).into())
+        let made = asked.made()?;
+        let forced = unless_it_panics(|| made.force_extended().required_len());
+        let model = (asked.mode != SHORT_ONLY).then(|| asked.len_in(2));
+        Ok([asked.same(forced, model).ok_or(15)? as u64].into())
     })
 }
 

@@ -6,6 +6,7 @@ use opened::command::{fields, CommandView};
 use super::asked::{bytes_of, expected, Asked, Builder};
 use crate::command::{by_rust, commands};
 use crate::inputs::Inputs;
+use crate::loops::triples;
 use crate::panics::unless_it_panics;
 use crate::record::{some_header, three, File, Recorded, Text};
 
@@ -140,12 +141,8 @@ fn at_boundary(file: &mut File, inputs: &mut Inputs, (len, le, mode): (usize, us
 }
 
 fn boundaries(file: &mut File, inputs: &mut Inputs) {
-    for len in LENGTHS {
-        for le in EXPECTED {
-            for mode in 0..3 {
-                at_boundary(file, inputs, (len, le, mode));
-            }
-        }
+    for (len, le, mode) in triples(LENGTHS, EXPECTED, 0..3) {
+        at_boundary(file, inputs, (len, le, mode));
     }
 }
 

@@ -6,6 +6,7 @@ use gorvisclen::{EXTENDED_FORCED, EXTENDED_SUPPORTED};
 use super::asked::{bytes_of, Asked, Builder};
 use super::operations::{equals, force, length, write};
 use crate::call::Call;
+use crate::loops::{pairs, triples};
 use crate::timing::{apart, told, Lines, Size, HEADER};
 
 /// The most that ours may take of the Rust's time. Above 256 data bytes the time is that of copying them: the compiler does not
@@ -47,25 +48,23 @@ fn write_built(builder: &Builder, buffer: &mut [u8], out: &mut [u64]) -> u8 {
 }
 
 fn writing(lines: &mut Lines) {
-    for (mode, of_mode) in MODES {
-        for (n, words) in LENGTHS {
-            for (le, with) in [(0, ""), (256, ", Le")] {
-                let data = vec![0xAA; n];
-                let asked = Asked::new(HEADER, le, mode, &data);
-                let size = Size {
-                    to: LONGEST,
-                    out: 1,
-                    bytes: n,
-                };
-                lines.sides(
-                    (&format!("write {of_mode}, {words}{with}"), most(n)),
-                    size,
-                    (&[asked.made().unwrap()], &[write(asked, 0)]),
-                    |builder, to, out| apart(|| write_built(builder, to, out)),
-                    |call, to, out| told(call.ours(to, out)),
-                );
-            }
-        }
+    for ((mode, of_mode), (n, words), (le, with)) in
+        triples(MODES, LENGTHS, [(0, ""), (256, ", Le")])
+    {
+        let data = vec![0xAA; n];
+        let asked = Asked::new(HEADER, le, mode, &data);
+        let size = Size {
+            to: LONGEST,
+            out: 1,
+            bytes: n,
+        };
+        lines.sides(
+            (&format!("write {of_mode}, {words}{with}"), most(n)),
+            size,
+            (&[asked.made().unwrap()], &[write(asked, 0)]),
+            |builder, to, out| apart(|| write_built(builder, to, out)),
+            |call, to, out| told(call.ours(to, out)),
+        );
     }
 }
 
@@ -80,11 +79,12 @@ pub fn time(lines: &mut Lines) {
     writing(lines);
     let data = [0xAA; 4_096];
     let size = Size::default();
-    for (mode, of_mode) in MODES {
-        for (n, words) in [(0, "no data"), (16, "16 bytes"), (256, "256 bytes")] {
-            let of = [length(Asked::new(HEADER, 256, mode, &data[..n]))];
-            lines.calls(&format!("length {of_mode}, {words}, Le"), &of, size);
-        }
+    for ((mode, of_mode), (n, words)) in pairs(
+        MODES,
+        [(0, "no data"), (16, "16 bytes"), (256, "256 bytes")],
+    ) {
+        let of = [length(Asked::new(HEADER, 256, mode, &data[..n]))];
+        lines.calls(&format!("length {of_mode}, {words}, Le"), &of, size);
     }
     let asked = Asked::new(HEADER, 256, EXTENDED_SUPPORTED, &data[..16]);
     lines.calls("length once forced, 16 bytes, Le", &[force(asked)], size);

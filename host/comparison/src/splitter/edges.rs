@@ -6,6 +6,7 @@ use super::steps::step;
 use crate::builder::Asked;
 use crate::call::Call;
 use crate::lent::{bytes, numbers, Outcome};
+use crate::loops::pairs;
 use crate::tally::Tally;
 
 const PAPER: &str = "CommandBuilder::should_split, case by case (held to document 01)";
@@ -52,24 +53,22 @@ const CUTS: [Cut; 6] = [
 
 pub fn steps(tally: &mut Tally) {
     let data = vec![0xAA; 65_535];
-    for (mode, available, n, le, parts) in STEPS {
-        for class in [0x00, 0x80, 0xEF, 0x10] {
-            let [_, instruction, p1, p2] = HEADER;
-            let header = [class, instruction, p1, p2];
-            let answer = match parts {
-                None => [0; 6],
-                Some((len, le)) => [1, len, (class | 0x10).into(), 0, class.into(), le],
-            };
-            let asked = Asked::new(header, le, mode, &data[..n]);
-            step(asked, available).written(tally, PAPER, &Ok(answer.into()), 0);
-        }
+    for ((mode, available, n, le, parts), class) in pairs(STEPS, [0x00, 0x80, 0xEF, 0x10]) {
+        let [_, instruction, p1, p2] = HEADER;
+        let header = [class, instruction, p1, p2];
+        let answer = match parts {
+            None => [0; 6],
+            Some((len, le)) => [1, len, (class | 0x10).into(), 0, class.into(), le],
+        };
+        let asked = Asked::new(header, le, mode, &data[..n]);
+        step(asked, available).written(tally, PAPER, &Ok(answer.into()), 0);
     }
-    for mode in 0..3 {
-        for (n, available, answer) in [(0, 3, Err(14)), (0, 4, Ok([0; 6])), (1, 4, Err(14))] {
-            let asked = Asked::new(HEADER, 1, mode, &data[..n]);
-            let answer = answer.map(|numbers| numbers.into());
-            step(asked, available).written(tally, PAPER, &answer, 0);
-        }
+    for (mode, (n, available, answer)) in
+        pairs(0..3, [(0, 3, Err(14)), (0, 4, Ok([0; 6])), (1, 4, Err(14))])
+    {
+        let asked = Asked::new(HEADER, 1, mode, &data[..n]);
+        let answer = answer.map(|numbers| numbers.into());
+        step(asked, available).written(tally, PAPER, &answer, 0);
     }
 }
 

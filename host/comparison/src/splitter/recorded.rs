@@ -7,6 +7,7 @@ use super::rust::step;
 use crate::builder::bytes_of;
 use crate::builder::recorded::{some_fields, Fields, EXPECTED, LENGTHS};
 use crate::inputs::Inputs;
+use crate::loops::{pairs, triples};
 use crate::panics::unless_it_panics;
 use crate::record::{checksum, three, File, Recorded, Text};
 
@@ -75,22 +76,18 @@ fn add_chain(file: &mut File, asked: &Fields, data: &Text, available: usize) {
 }
 
 fn steps(file: &mut File, inputs: &mut Inputs) {
-    for len in LENGTHS {
-        for le in EXPECTED {
-            for mode in 0..3 {
-                let data = Text::some(inputs, len);
-                let asked = Fields {
-                    le,
-                    mode,
-                    ..some_fields(inputs)
-                };
-                let available = some_buffer(inputs);
-                add_step(file, &asked, &data, available);
-                if let Ok(builder) = asked.of(&data).made() {
-                    let available = (builder.required_len() + inputs.below(3)) - 1;
-                    add_step(file, &asked, &data, available);
-                }
-            }
+    for (len, le, mode) in triples(LENGTHS, EXPECTED, 0..3) {
+        let data = Text::some(inputs, len);
+        let asked = Fields {
+            le,
+            mode,
+            ..some_fields(inputs)
+        };
+        let available = some_buffer(inputs);
+        add_step(file, &asked, &data, available);
+        if let Ok(builder) = asked.of(&data).made() {
+            let available = (builder.required_len() + inputs.below(3)) - 1;
+            add_step(file, &asked, &data, available);
         }
     }
     for _ in 0..100 {
@@ -110,14 +107,12 @@ fn chains(file: &mut File, inputs: &mut Inputs) {
             ..some_fields(inputs)
         }
     };
-    for len in LENGTHS {
-        for le in [0, 1, 255, 256, 257, 65_535] {
-            let data = Text::some(inputs, len);
-            for available in [inputs.below(9), 9, 10, 261, some_buffer(inputs).max(10)] {
-                if len < 1_000 || available > 200 || le == 1 {
-                    let asked = short(inputs, le);
-                    add_chain(file, &asked, &data, available);
-                }
+    for (len, le) in pairs(LENGTHS, [0, 1, 255, 256, 257, 65_535]) {
+        let data = Text::some(inputs, len);
+        for available in [inputs.below(9), 9, 10, 261, some_buffer(inputs).max(10)] {
+            if len < 1_000 || available > 200 || le == 1 {
+                let asked = short(inputs, le);
+                add_chain(file, &asked, &data, available);
             }
         }
     }

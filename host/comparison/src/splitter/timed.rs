@@ -10,6 +10,7 @@ use opened::command::CommandBuilder;
 use super::steps::step;
 use crate::builder::Asked;
 use crate::call::Call;
+use crate::loops::triples;
 use crate::timing::{apart, checked, told, Lines, Size, HEADER, NO_LIMIT};
 
 /// The most that ours may take of the Rust's time.
@@ -89,24 +90,22 @@ pub fn time(lines: &mut Lines) {
             &data[..n],
         );
     }
-    for available in [BUFFER_LEN, 10] {
-        for (n, words) in LENGTHS {
-            for (le, with) in [(0, ""), (256, ", Le")] {
-                let data = &data[..n];
-                let sample = Sample {
-                    le,
-                    data,
-                    available,
-                };
-                let (to, out, bytes) = (available, 2, 40 * n);
-                lines.sides(
-                    (&format!("cut for {available}, {words}{with}"), MOST),
-                    Size { to, out, bytes },
-                    (&[sample], &[sample]),
-                    |sample, to, out| apart(|| by_rust(sample, to, out)),
-                    |sample, to, out| apart(|| told(by_ours(sample, to, out))),
-                );
-            }
-        }
+    for (available, (n, words), (le, with)) in
+        triples([BUFFER_LEN, 10], LENGTHS, [(0, ""), (256, ", Le")])
+    {
+        let data = &data[..n];
+        let sample = Sample {
+            le,
+            data,
+            available,
+        };
+        let (to, out, bytes) = (available, 2, 40 * n);
+        lines.sides(
+            (&format!("cut for {available}, {words}{with}"), MOST),
+            Size { to, out, bytes },
+            (&[sample], &[sample]),
+            |sample, to, out| apart(|| by_rust(sample, to, out)),
+            |sample, to, out| apart(|| told(by_ours(sample, to, out))),
+        );
     }
 }

@@ -11,6 +11,7 @@ use super::records::{bytes_of, length_forms};
 use super::writing::{self, put, three_bytes};
 use crate::call::{Call, Left};
 use crate::inputs::Inputs;
+use crate::loops::pairs;
 use crate::record::{damaged, three, File, Filling, Recorded, Text};
 
 /// Tags of one to three bytes; the last four by the crate's reading alone, or by none.
@@ -80,12 +81,10 @@ fn forms(n: usize) -> Vec<Vec<u8>> {
 /// Each form of a length, the value whole, a byte short and with some bytes behind it.
 fn objects(file: &mut File, inputs: &mut Inputs) {
     for n in [0, 1, 2, 5, 127, 128, 255, 256, 300, 65_534, 65_535] {
-        for form in forms(n) {
-            for len in [n, n.saturating_sub(1), n + 1, n] {
-                let front = [bytes_of(inputs.one_of(&TAGS)), form.clone()].concat();
-                let text = Text::some(inputs, len).within(&front, &[]);
-                add_object(file, &text);
-            }
+        for (form, len) in pairs(forms(n), [n, n.saturating_sub(1), n + 1, n]) {
+            let front = [bytes_of(inputs.one_of(&TAGS)), form.clone()].concat();
+            let text = Text::some(inputs, len).within(&front, &[]);
+            add_object(file, &text);
         }
     }
     for _ in 0..250 {

@@ -5,14 +5,14 @@
 
 use gorvisclen::{CRATE_READING, LOOKUP_NUMBERS};
 use original::command::DataStream;
-use original::tlv::{get_data_object, Tag};
+use original::tlv::{get_data_object, take_data_object, take_len, take_tag, Tag};
 
 use super::front::{self, place_of, Front};
 use super::lookup::{find, tag, value, Lookup};
 use super::records::{bytes_of, length_forms};
 use super::writing::{put, Object};
 use crate::call::Call;
-use crate::timing::{apart, check, told, Lines, Size, NO_LIMIT};
+use crate::timing::{apart, check, checked, told, Lines, Size, NO_LIMIT};
 
 /// The most that ours may take of the Rust's time, for place and length.
 const MOST: f64 = 1.50;
@@ -28,16 +28,23 @@ const ASKED: [(&str, u32); 4] = [
 /// The tags of the other objects.
 const OTHERS: [u32; 8] = [0xC1, 0x5F25, 0x50, 0xDF8102, 0x9F1F, 0x87, 0x5F20, 0xC2];
 
-/// Times what the front of some bytes is taken as.
-fn front<const N: usize>(
+/// Times what the front of some bytes is taken as. The Rust gives a tag as it holds it, ours its number.
+fn front<const N: usize, T>(
     lines: &mut Lines,
-    name: &str,
-    of: impl Front<N>,
+    (name, of): (&str, impl Front<N>),
     samples: &[(&str, &[u8])],
+    by_rust: impl Fn(&[u8]) -> Option<T>,
 ) {
-    for (words, bytes) in samples {
-        let of = [of.of(CRATE_READING, bytes)];
-        lines.calls(&format!("{name}, {words}"), &of, Size::default());
+    for &(words, bytes) in samples {
+        let name = format!("{name}, {words}");
+        let size = checked(&name, &[of.of(CRATE_READING, bytes)], Size::default());
+        lines.giving(
+            (&name, NO_LIMIT),
+            size,
+            &[(bytes, of.of(CRATE_READING, bytes))],
+            |(bytes, _)| apart(|| by_rust(bytes)),
+            |(_, call), to, out| told(call.ours(to, out)),
+        );
     }
 }
 
@@ -53,21 +60,30 @@ fn fronts(lines: &mut Lines) {
         ("3 bytes", &[0xDF, 0x81, 0x01, 0x00]),
         ("refused 12", &[0x5F, 0x80, 0x01]),
     ];
-    front(lines, "take_tag", front::Tag, &tags);
+    front(lines, ("take_tag", front::Tag), &tags, |bytes| {
+        take_tag(bytes).map(|(tag, rest)| (tag, bytes.len() - rest.len()))
+    });
     let lengths: [(&str, &[u8]); 4] = [
         ("1 byte", &[0x7F]),
         ("2 bytes", &[0x81, 0x80]),
         ("3 bytes", &[0x82, 0x01, 0x00]),
         ("refused 12", &[0x83, 0x01, 0x00, 0x00]),
     ];
-    front(lines, "take_len", front::Len, &lengths);
+    front(lines, ("take_len", front::Len), &lengths, |bytes| {
+        take_len(bytes).map(|(len, rest)| (len, bytes.len() - rest.len()))
+    });
     let objects: [(&str, &[u8]); 4] = [
         ("3 bytes", &object(3)),
         ("200 bytes", &object(200)),
         ("65,535 bytes", &object(65_535)),
         ("refused 12", &object(200)[..100]),
     ];
-    front(lines, "take_data_object", front::Object, &objects);
+    front(
+        lines,
+        ("take_data_object", front::Object),
+        &objects,
+        |bytes| take_data_object(bytes).map(|(tag, value, _)| (tag, place_of(value, bytes))),
+    );
 }
 
 fn put_by_rust(object: &Object, to: &mut [u8], out: &mut [u64]) -> u8 {

@@ -11,6 +11,7 @@ use super::records::length_forms;
 use crate::call::{call, Call, Given, Left};
 use crate::inputs::Inputs;
 use crate::lent::{places_past, Hex};
+use crate::loops::{pairs, triples};
 use crate::tally::Tally;
 
 const WRITE: &str = "Tlv::to_writer";
@@ -116,16 +117,15 @@ impl<'a> Object<'a> {
 
 /// Small buffers: every place from the beginning to past the end, `out` of every length to 2.
 fn every_place(tally: &mut Tally, inputs: &mut Inputs) {
-    for tag in TAGS {
-        for n in [0, 1, 2, 5] {
-            let value = &inputs.bytes(n);
-            let object = Object::of(three_bytes(tag), value);
-            for buffer_len in 0..=12 {
-                for at in (0..=buffer_len + 3).chain([usize::MAX - 1, usize::MAX]) {
-                    for len in 0..=2 {
-                        object.write(tally, buffer_len, at, len);
-                    }
-                }
+    for (tag, n) in pairs(TAGS, [0, 1, 2, 5]) {
+        let value = &inputs.bytes(n);
+        let object = Object::of(three_bytes(tag), value);
+        for buffer_len in 0..=12 {
+            for (at, len) in pairs(
+                (0..=buffer_len + 3).chain([usize::MAX - 1, usize::MAX]),
+                0..=2,
+            ) {
+                object.write(tally, buffer_len, at, len);
             }
         }
     }
@@ -136,22 +136,16 @@ fn every_boundary(tally: &mut Tally, inputs: &mut Inputs) {
     let row = &inputs.bytes(131_100);
     let short = [0, 1, 2, 126, 127, 128, 129, 254, 255, 256, 257, 511, 512];
     let long = [65_534, 65_535, 65_536, 65_537, 65_541, 65_791, 131_072];
-    for tag in TAGS {
-        for n in short {
-            for before in [0, 1, 7] {
-                Object::of(three_bytes(tag), &row[..n]).around_the_end(tally, before);
-            }
-        }
+    for (tag, n, before) in triples(TAGS, short, [0, 1, 7]) {
+        Object::of(three_bytes(tag), &row[..n]).around_the_end(tally, before);
     }
-    for tag in [TAGS[2], TAGS[5], TAGS[16]] {
-        for n in long {
-            let object = Object::of(three_bytes(tag), &row[..n]);
-            object.around_the_end(tally, inputs.below(3));
-            object.around_the_end(tally, 66_000);
-            // 19 comes before 16.
-            for (buffer_len, at) in [(0, 0), (0, 1), (4, 0), (n, 0), (n, n + 1)] {
-                object.write(tally, buffer_len, at, inputs.below(3));
-            }
+    for (tag, n) in pairs([TAGS[2], TAGS[5], TAGS[16]], long) {
+        let object = Object::of(three_bytes(tag), &row[..n]);
+        object.around_the_end(tally, inputs.below(3));
+        object.around_the_end(tally, 66_000);
+        // 19 comes before 16.
+        for (buffer_len, at) in [(0, 0), (0, 1), (4, 0), (n, 0), (n, n + 1)] {
+            object.write(tally, buffer_len, at, inputs.below(3));
         }
     }
 }
