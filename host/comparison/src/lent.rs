@@ -12,9 +12,20 @@ const MARGIN: usize = 4;
 const SHOWN: (usize, usize) = (80, 16);
 
 /// A buffer to lend: a part of a longer one that is filled with a pattern, so that a write outside of the part is seen.
-#[derive(Clone, PartialEq)]
+#[derive(PartialEq)]
 pub struct Lent<T> {
     whole: Vec<T>,
+}
+
+impl<T: Clone> Clone for Lent<T> {
+    fn clone(&self) -> Self {
+        let whole = self.whole.clone();
+        Lent { whole }
+    }
+
+    fn clone_from(&mut self, other: &Self) {
+        self.whole.clone_from(&other.whole);
+    }
 }
 
 impl<T: Copy> Lent<T> {

@@ -26,8 +26,8 @@ pub const EXPECTED: [u32; 20] = [
     65_791,
     65_792,
     131_071,
-    16_777_216,
-    4_294_967_295,
+    1 << 24,
+    u32::MAX,
 ];
 
 /// Lengths of data around each boundary.

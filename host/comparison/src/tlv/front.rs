@@ -4,13 +4,13 @@ use std::fmt::Debug;
 use std::hint::black_box;
 use std::ops::Range;
 
-use gorvisclen::{Refused, Reply, CRATE_READING, LEN_NUMBERS, OBJECT_NUMBERS, TAG_NUMBERS};
+use gorvisclen::{Reply, CRATE_READING, LEN_NUMBERS, OBJECT_NUMBERS, TAG_NUMBERS};
 use original::tlv::{self, take_data_object, take_len, take_tag};
 
 use super::model;
 use super::names::{self, Names};
-use crate::call::{call, leave, Call, Given};
-use crate::lent::{bytes, numbers, Hex, Lent, Outcome};
+use crate::call::{call, leave, Call, Given, Left};
+use crate::lent::{self, numbers, Hex, Lent, Outcome};
 use crate::tally::Tally;
 
 /// One of them: its names, the exported function, what the Rust reads and what the model says.
@@ -47,27 +47,34 @@ pub trait Front<const N: usize>: Copy + Given {
         answer
     }
 
-    /// Compares every string of `len` bytes, at most 3. The counts are kept here, and one buffer serves, since they are many.
+    /// Compares every string of `len` bytes, at most 3. The counts are kept here, and the same buffers serve, since they are many.
     fn every_string(self, tally: &mut Tally, reading: u8, len: usize) {
-        let mut out = Reused::new(N);
+        let [first, mut wanted, mut out] = [0; 3].map(|_| numbers(N));
         let mut agreed = [0; 256];
         for n in 0..1_u32 << (8 * len) {
             let before = n.to_be_bytes();
             let string = black_box(before);
             let bytes = &string[4 - len..];
             let answer = self.answer(reading, bytes);
-            let reply = Self::OURS(reading, bytes, out.lent.part());
-            if *black_box(&string) == before && out.agrees(answer, reply) {
+            let demanded = leave(&answer.map(Left::from), &mut [], wanted.part());
+            let reply = Self::OURS(reading, bytes, out.part());
+            if (black_box(&string), reply, &out) == (&before, demanded, &wanted) {
                 agreed[usize::from(answer.err().unwrap_or(0))] += 1;
-                continue;
+            } else {
+                let outcome =
+                    |reply, out: &Lent<u64>| Outcome::new(reply, out.clone(), lent::bytes(0));
+                let theirs = outcome(demanded, &wanted).reading(before.to_vec());
+                let ours = outcome(reply, &out).reading(string.to_vec());
+                let input = || format!("{:?}", self.of(reading, bytes));
+                tally.compare(
+                    Self::NAMES.of(reading, answer.is_ok()),
+                    input,
+                    &theirs,
+                    &ours,
+                );
             }
-            let mut theirs = Reused::new(N);
-            let demanded = leave(&answer.map(|n| n.into()), &mut [], theirs.lent.part());
-            let theirs = theirs.outcome(demanded).reading(before.to_vec());
-            let ours = out.outcome(reply).reading(string.to_vec());
-            let names = Self::NAMES.of(reading, answer.is_ok());
-            let input = || format!("{:?}", self.of(reading, bytes));
-            tally.compare(names, input, &theirs, &ours);
+            wanted.clone_from(&first);
+            out.clone_from(&first);
         }
         for (number, cases) in (0..=255).zip(agreed) {
             tally.count(Self::NAMES.of(reading, number == 0), number, cases);
@@ -153,42 +160,4 @@ pub fn place_of(part: &[u8], bytes: &[u8]) -> Range<usize> {
 /// Ends the program where the model does not read what the Rust reads.
 pub fn same<T: PartialEq, I: Debug>(rust: Option<T>, model: Option<T>, input: impl Fn() -> I) {
     assert!(rust == model, "the model is not the Rust: {:?}", input());
-}
-
-/// Numbers that are lent to one call after the other, each time as they were at first.
-struct Reused {
-    first: Lent<u64>,
-    wanted: Lent<u64>,
-    lent: Lent<u64>,
-}
-
-impl Reused {
-    fn new(len: usize) -> Self {
-        Reused {
-            first: numbers(len),
-            wanted: numbers(len),
-            lent: numbers(len),
-        }
-    }
-
-    /// Whether a call left what it had to. If so, the numbers are again as they were at first.
-    fn agrees<const N: usize>(&mut self, answer: Result<[u64; N], u8>, reply: Reply) -> bool {
-        match answer {
-            Err(number) => reply == Err(Refused(number)) && self.lent == self.first,
-            Ok(numbers) => {
-                self.wanted.part().copy_from_slice(&numbers);
-                let agrees = reply == Ok(()) && self.lent == self.wanted;
-                if agrees {
-                    self.lent.part().copy_from_slice(self.first.part());
-                }
-                agrees
-            }
-        }
-    }
-
-    /// What a call has left. The numbers are again as they were at first.
-    fn outcome(&mut self, reply: Reply) -> Outcome {
-        let out = std::mem::replace(&mut self.lent, self.first.clone());
-        Outcome::new(reply, out, bytes(0))
-    }
 }

@@ -198,7 +198,7 @@ fn record_of(len: usize) -> Vec<u8> {
 }
 
 /// Times place and length, then the slice, and prints a line for each.
-fn lookups(lines: &mut Lines, name: &str, samples: &[Sample]) {
+fn lookups<'a>(lines: &mut Lines, name: &str, samples: &[Sample<'a>]) {
     let walked = |sample: &Sample| match value_of(sample) {
         Some(value) => place_of(value, &sample.lookup.record).start,
         None => sample.lookup.record.len(),
@@ -222,8 +222,7 @@ fn lookups(lines: &mut Lines, name: &str, samples: &[Sample]) {
             part(sample.slice(&mut [], &mut [7; 2])),
         );
     }
-    let ours = |sample: &Sample, to: &mut [u8], out: &mut [u64]| sample.slice(to, out).is_some();
-    lines.giving((&name, NO_LIMIT), size, samples, value_of, ours);
+    lines.giving((&name, NO_LIMIT), size, samples, value_of, Sample::slice);
 }
 
 pub fn time(lines: &mut Lines) {
