@@ -12,20 +12,14 @@ use std::path::{Path, PathBuf};
 use std::{env, fs, process};
 
 const COUNTED: [&str; 4] = ["aid.rs", "tlv.rs", "command.rs", "command/class.rs"];
-const COPIED: [&str; 3] = [
-    "command/datasource.rs",
-    "command/instruction.rs",
-    "command/writer.rs",
-];
+const COPIED: [&str; 3] = ["command/datasource.rs", "command/instruction.rs", "command/writer.rs"];
 
 fn folder(variable: &str) -> PathBuf {
     PathBuf::from(env::var_os(variable).unwrap())
 }
 
 fn read(file: &str) -> String {
-    let from = folder("CARGO_MANIFEST_DIR")
-        .join("../../../shared/docs/src")
-        .join(file);
+    let from = folder("CARGO_MANIFEST_DIR").join("../../../shared/docs/src").join(file);
     println!("cargo:rerun-if-changed={}", from.display());
     fs::read_to_string(&from).unwrap_or_else(|error| {
         eprintln!("{}: {error}", from.display());
@@ -52,13 +46,7 @@ fn main() {
         let tokens = lexer::tokens(&source);
         write(file, &walker::counted(file, &tokens, &mut branches));
     }
-    let rows: String = branches
-        .iter()
-        .map(|row| format!("    {row:?},\n"))
-        .collect();
-    let table = format!(
-        "pub const BRANCHES: [Branch; {}] = [\n{rows}];\n",
-        branches.len()
-    );
+    let rows: String = branches.iter().map(|row| format!("    {row:?},\n")).collect();
+    let table = format!("pub const BRANCHES: [Branch; {}] = [\n{rows}];\n", branches.len());
     write("branches.rs", &table);
 }

@@ -35,9 +35,7 @@ struct Walker<'a> {
 
 /// The copy of a source with its counters. A row for each is added to `branches`, and counts by its place there.
 pub fn counted(file: &str, tokens: &[Token], branches: &mut Vec<Branch>) -> String {
-    let named = tokens
-        .windows(3)
-        .filter(|w| [w[0].text, w[1].text] == ["const", "fn"]);
+    let named = tokens.windows(3).filter(|w| [w[0].text, w[1].text] == ["const", "fn"]);
     let mut walker = Walker {
         file,
         tokens,
@@ -48,9 +46,7 @@ pub fn counted(file: &str, tokens: &[Token], branches: &mut Vec<Branch>) -> Stri
         function: String::new(),
     };
     walker.walk(0, tokens.len());
-    walker
-        .out
-        .push_str("\n#[allow(unused_imports)]\nuse crate::Early as _;\n");
+    walker.out.push_str("\n#[allow(unused_imports)]\nuse crate::Early as _;\n");
     walker.out
 }
 
@@ -148,13 +144,7 @@ impl<'a> Walker<'a> {
 
     /// Writes the block at `i`, counted; behind it.
     fn block(&mut self, i: usize, text: String) -> usize {
-        assert_eq!(
-            self.at(i),
-            "{",
-            "{}: line {}",
-            self.file,
-            self.tokens[i].line
-        );
+        assert_eq!(self.at(i), "{", "{}: line {}", self.file, self.tokens[i].line);
         let end = self.behind(i);
         self.copy(i, i + 1);
         self.hit(i, text);
@@ -225,11 +215,7 @@ impl<'a> Walker<'a> {
         let mut end = self.behind(i + 1);
         if self.at(i + 2) == "cfg" {
             end = self.find(end, &[";", "{"]);
-            end = if self.at(end) == "{" {
-                self.behind(end)
-            } else {
-                end + 1
-            };
+            end = if self.at(end) == "{" { self.behind(end) } else { end + 1 };
         }
         self.copy(i, end)
     }
@@ -250,8 +236,7 @@ impl<'a> Walker<'a> {
         self.copy(i, i + 3);
         self.out.push_str(FOR_CONSTANTS);
         self.copy_constant(i + 3, end);
-        self.out
-            .push_str(if public { "\n    pub " } else { "\n    " });
+        self.out.push_str(if public { "\n    pub " } else { "\n    " });
         self.function(i + 1)
     }
 

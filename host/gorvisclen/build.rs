@@ -12,10 +12,7 @@ fn fail(said: String) -> ! {
 /// The names that the archives of the folder are linked by, in order: `exports_class` of libexports_class.a.
 fn archives(folder: &Path) -> Vec<String> {
     let entries = fs::read_dir(folder).unwrap_or_else(|error| {
-        fail(format!(
-            "{}: {error}: host/archives writes the archives there",
-            folder.display()
-        ))
+        fail(format!("{}: {error}: host/archives writes the archives there", folder.display()))
     });
     let mut names: Vec<String> = entries
         .filter_map(|entry| entry.ok()?.file_name().into_string().ok())
@@ -38,10 +35,7 @@ fn main() {
     println!("cargo:rerun-if-changed={}", folder.display());
     let archives = archives(&folder);
     if archives.is_empty() {
-        fail(format!(
-            "no libexports*.a in {}: host/archives writes them",
-            folder.display()
-        ));
+        fail(format!("no libexports*.a in {}: host/archives writes them", folder.display()));
     }
     println!("cargo:rustc-link-search=native={}", folder.display());
     for name in archives {

@@ -81,10 +81,7 @@ struct Case<'a> {
 impl<'a> Case<'a> {
     fn of(name: &'a [u8], truncated_len: usize) -> Self {
         let name = Hex(name);
-        Case {
-            name,
-            truncated_len,
-        }
+        Case { name, truncated_len }
     }
 
     #[inline(always)]
@@ -158,10 +155,7 @@ fn matches<'a>(case: Case<'a>, asked: &'a [u8]) -> impl Call<1> + 'a {
 impl Case<'_> {
     /// Ends the program where the Rust's functions that panic make another AID, or panic where the others make one.
     fn by_those_that_panic(&self) {
-        let &Case {
-            name,
-            truncated_len,
-        } = self;
+        let &Case { name, truncated_len } = self;
         let one = unless_it_panics(|| Aid::new_truncatable(&name, truncated_len));
         let whole = unless_it_panics(|| Aid::new(&name));
         let same = one == self.made().ok() && whole == Aid::try_new(&name).ok();
@@ -225,10 +219,9 @@ fn every_first_byte(tally: &mut Tally, inputs: &mut Inputs) {
 
 /// Lengths and truncated lengths far above, where a number cut to a byte or to two would show.
 fn far_above(tally: &mut Tally, inputs: &mut Inputs) {
-    for (len, first) in pairs(
-        [5, 16, 18, 255, 256, 261, 272, 65_541],
-        [0xA0, 0xD2, 0xE8, 0xF0, 0x00],
-    ) {
+    for (len, first) in
+        pairs([5, 16, 18, 255, 256, 261, 272, 65_541], [0xA0, 0xD2, 0xE8, 0xF0, 0x00])
+    {
         let name = name_of(inputs, first, len);
         for truncated_len in [5, 255, 256, 261, 65_536, 65_541, usize::MAX] {
             Case::of(&name, truncated_len).every_operation(tally, inputs);
@@ -255,9 +248,7 @@ fn every_room(tally: &mut Tally, inputs: &mut Inputs) {
 }
 
 /// A registered AID.
-const PIV: &[u8] = &[
-    0xA0, 0x00, 0x00, 0x03, 0x08, 0x00, 0x00, 0x10, 0x00, 0x01, 0x00,
-];
+const PIV: &[u8] = &[0xA0, 0x00, 0x00, 0x03, 0x08, 0x00, 0x00, 0x10, 0x00, 0x01, 0x00];
 
 /// A damaged copy of it.
 fn damaged(tally: &mut Tally, inputs: &mut Inputs) {

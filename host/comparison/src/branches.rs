@@ -14,12 +14,7 @@ const EXCEPTED: [(&str, &str, &str, &str); 8] = [
     ("aid.rs", "impl fmt::Debug for FromSliceError", "", DEBUG),
     ("aid.rs", "impl fmt::Debug for Aid", "", DEBUG),
     ("command.rs", "DataSource for CommandBuilder<D>", "", NESTED),
-    (
-        "command.rs",
-        "DataStream<W> for CommandBuilder<D>",
-        "",
-        NESTED,
-    ),
+    ("command.rs", "DataStream<W> for CommandBuilder<D>", "", NESTED),
     (
         "command.rs",
         "serialize_expected_len",
@@ -56,12 +51,7 @@ fn excepted(branch: &Branch) -> Option<usize> {
 }
 
 fn shown(count: u64, branch: &Branch) -> String {
-    let Branch {
-        file,
-        line,
-        function,
-        text,
-    } = branch;
+    let Branch { file, line, function, text } = branch;
     format!("branch {count:>10}  {file}:{line}, {function}: {text}")
 }
 
@@ -90,18 +80,11 @@ pub fn print(counts: &[u64], least: u64) -> bool {
         }
     }
     for (&(file, function, text, why), n) in EXCEPTED.iter().zip(used) {
-        let of = if n == 0 {
-            ": EXCEPTED, BUT NOT THERE"
-        } else {
-            ""
-        };
+        let of = if n == 0 { ": EXCEPTED, BUT NOT THERE" } else { "" };
         println!("branches {n:>8}  excepted in {file}, {function} {text}: {why}{of}");
         failed |= n == 0;
     }
     let held = branches.len() - used.iter().sum::<usize>();
-    println!(
-        "branches in all: {}, held to at least {least} times: {held}",
-        branches.len()
-    );
+    println!("branches in all: {}, held to at least {least} times: {held}", branches.len());
     failed
 }

@@ -52,9 +52,7 @@ fn around_the_end(tally: &mut Tally, inputs: &mut Inputs, asked: Asked, before: 
 
 /// Commands that are equal to one to build: its own bytes, in which Le is lowered and Max is 65,536; then its fields in both forms.
 fn equal(asked: Asked, ne: u32) -> Vec<Vec<u8>> {
-    let Asked {
-        header, le, data, ..
-    } = asked;
+    let Asked { header, le, data, .. } = asked;
     let mut apdus = vec![model::command(header, le, asked.mode, data)];
     for mode in [EXTENDED_SUPPORTED, EXTENDED_FORCED] {
         apdus.push(model::command(header, ne, mode, data));
@@ -185,11 +183,8 @@ fn every_length(tally: &mut Tally, inputs: &mut Inputs) {
 /// Every mode byte.
 fn every_mode(tally: &mut Tally, inputs: &mut Inputs) {
     let row = inputs.bytes(256);
-    for (mode, n, le) in triples(
-        0..=255,
-        [0, 1, 255, 256],
-        [0, 1, 256, 257, 65_535, EXPECTED_MAX],
-    ) {
+    for (mode, n, le) in triples(0..=255, [0, 1, 255, 256], [0, 1, 256, 257, 65_535, EXPECTED_MAX])
+    {
         let asked = Asked::new(some_header(inputs), le, mode, &row[..n]);
         every_operation(tally, inputs, asked);
     }
@@ -226,10 +221,8 @@ fn every_place(tally: &mut Tally, inputs: &mut Inputs) {
         let header = HEADERS[inputs.below(HEADERS.len() - 1)];
         let asked = Asked::new(header, le, mode, data);
         for buffer_len in 0..=16 {
-            for (at, len) in pairs(
-                (0..=buffer_len + 3).chain([usize::MAX - 1, usize::MAX]),
-                0..=2,
-            ) {
+            for (at, len) in pairs((0..=buffer_len + 3).chain([usize::MAX - 1, usize::MAX]), 0..=2)
+            {
                 write(asked, at).compare(tally, buffer_len, len);
             }
         }

@@ -29,12 +29,7 @@ impl<'a, const N: usize> Left<'a, N> {
     #[inline]
     pub fn written(numbers: [u64; N], at: usize, bytes: impl Into<Cow<'a, [u8]>>) -> Self {
         let (bytes, refused) = (bytes.into(), None);
-        Left {
-            numbers,
-            at,
-            bytes,
-            refused,
-        }
+        Left { numbers, at, bytes, refused }
     }
 
     /// Leaves it, in what is long enough.
@@ -199,14 +194,7 @@ where
     O: Fn(&I, &mut [u8], &mut [u64]) -> Reply,
     R: Fn(&I, usize) -> Answer<'_, N>,
 {
-    Described {
-        inputs,
-        names,
-        ours,
-        rust,
-        naming: None,
-        theirs: None,
-    }
+    Described { inputs, names, ours, rust, naming: None, theirs: None }
 }
 
 impl<I, O, R, const N: usize> Described<I, O, R, N> {
@@ -235,9 +223,7 @@ where
     R: Fn(&I, usize) -> Answer<'_, N>,
 {
     fn names(&self, to_len: usize, answer: &Answer<N>) -> Names {
-        let named = self
-            .naming
-            .and_then(|naming| naming(&self.inputs, to_len, answer));
+        let named = self.naming.and_then(|naming| naming(&self.inputs, to_len, answer));
         named.unwrap_or(self.names)
     }
 

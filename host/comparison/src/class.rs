@@ -40,15 +40,11 @@ const STANDARD_SECURE_MESSAGING: [(u8, u8, SecureMessaging); 6] = [
 
 /// The channel as ISO/IEC 7816-4 has it: the bits that decide, their value, the bits that count, what they count from.
 /// A byte of no row has none.
-const STANDARD_CHANNEL: [(u8, u8, u8, u8); 2] = [
-    (0b1110_0000, 0b0000_0000, 0b0000_0011, 0),
-    (0b1100_0000, 0b0100_0000, 0b0000_1111, 4),
-];
+const STANDARD_CHANNEL: [(u8, u8, u8, u8); 2] =
+    [(0b1110_0000, 0b0000_0000, 0b0000_0011, 0), (0b1100_0000, 0b0100_0000, 0b0000_1111, 4)];
 
 fn standard_secure_messaging(cla: u8) -> SecureMessaging {
-    let row = STANDARD_SECURE_MESSAGING
-        .iter()
-        .find(|row| cla & row.0 == row.1);
+    let row = STANDARD_SECURE_MESSAGING.iter().find(|row| cla & row.0 == row.1);
     row.map_or(SecureMessaging::Unknown, |row| row.2)
 }
 
@@ -118,9 +114,7 @@ fn with_standard(mut numbers: Numbers) -> Numbers {
     let none = messaging == SecureMessaging::None;
     let channel = of_channel(standard_channel(cla));
     for (place, n) in
-        STANDARD
-            .into_iter()
-            .zip([of_secure_messaging(messaging), none.into(), channel])
+        STANDARD.into_iter().zip([of_secure_messaging(messaging), none.into(), channel])
     {
         numbers[place] = n;
     }
@@ -209,10 +203,7 @@ fn recorded(class: Class, answer: Recorded) -> Recorded {
     let places = (0..CLASS_NUMBERS).filter(|place| !STANDARD.contains(place));
     let numbers: Vec<u8> = places.map(|place| numbers[place]).collect();
     let constants = [ZERO_CLA, NO_SM_CLA, SM_CLA].map(|constant| (class == constant).into());
-    answer
-        .bytes(&numbers)
-        .byte(class.as_chained().into_inner())
-        .bytes(&constants)
+    answer.bytes(&numbers).byte(class.as_chained().into_inner()).bytes(&constants)
 }
 
 pub fn record(file: &mut File, _: &mut Inputs) {

@@ -299,10 +299,7 @@ fn chain(tally: &mut Tally, inputs: &mut Inputs, room: &Room) {
         apdus.push(apdu);
         free -= if n <= free { n } else { 0 };
     }
-    let piece = |apdu| Piece {
-        apdu,
-        out_len: OWNED_NUMBERS - usize::from(inputs.below(16) == 0),
-    };
+    let piece = |apdu| Piece { apdu, out_len: OWNED_NUMBERS - usize::from(inputs.below(16) == 0) };
     let pieces: Vec<_> = apdus.iter().map(|apdu| &apdu[..]).map(piece).collect();
     (room.extended)(tally, start, &pieces);
 }

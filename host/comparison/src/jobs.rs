@@ -17,9 +17,7 @@ pub const LEAST: u64 = 1_000;
 const LEAST_SHORT: u64 = 1;
 
 /// The numbers of refusal that the library gives. 20 is the listing's.
-const REFUSALS: [u8; 20] = [
-    1, 2, 3, 4, 5, 6, 7, 8, 9, 10, 11, 12, 13, 14, 15, 16, 17, 18, 19, 21,
-];
+const REFUSALS: [u8; 20] = [1, 2, 3, 4, 5, 6, 7, 8, 9, 10, 11, 12, 13, 14, 15, 16, 17, 18, 19, 21];
 
 /// What a run is asked for.
 pub struct Asked {
@@ -116,11 +114,7 @@ impl Done {
         let mut failed = self.tally.mismatches() > 0;
         for number in REFUSALS {
             let count = self.tally.refused(number);
-            let few = if count < self.least() {
-                ": TOO FEW"
-            } else {
-                ""
-            };
+            let few = if count < self.least() { ": TOO FEW" } else { "" };
             println!("refused {number:>2}: {count:>9}{few}");
             failed |= count < self.least();
         }

@@ -30,9 +30,7 @@ impl<T: Clone> Clone for Lent<T> {
 
 impl<T: Copy> Lent<T> {
     fn filled(len: usize, pattern: impl Fn(usize) -> T) -> Self {
-        Lent {
-            whole: (0..len + 2 * MARGIN).map(pattern).collect(),
-        }
+        Lent { whole: (0..len + 2 * MARGIN).map(pattern).collect() }
     }
 
     /// The part that is lent.
@@ -75,12 +73,7 @@ pub struct Outcome {
 impl Outcome {
     pub fn new(reply: Reply, out: Lent<u64>, to: Lent<u8>) -> Self {
         let read = Vec::new();
-        Outcome {
-            reply,
-            out,
-            to,
-            read,
-        }
+        Outcome { reply, out, to, read }
     }
 
     /// With what else was lent, to be read: as it is now.

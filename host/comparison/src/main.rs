@@ -68,14 +68,8 @@ const RANDOM: [(&str, Job); 9] = [
 ];
 
 /// What is recorded, in the order of the file.
-const RECORDED: [fn(&mut File, &mut Inputs); 6] = [
-    class::record,
-    aid::record,
-    tlv::record,
-    command::record,
-    builder::record,
-    splitter::record,
-];
+const RECORDED: [fn(&mut File, &mut Inputs); 6] =
+    [class::record, aid::record, tlv::record, command::record, builder::record, splitter::record];
 
 /// What is timed, in the order of the lines.
 const TIMED: [fn(&mut Lines); 7] = [
@@ -112,10 +106,7 @@ fn asked(words: &[&str]) -> Option<Asked> {
 
 /// Compares, and says whether that failed.
 fn compare(asked: &Asked) -> bool {
-    println!(
-        "seed {}, random cases asked for {}",
-        asked.seed, asked.cases
-    );
+    println!("seed {}, random cases asked for {}", asked.seed, asked.cases);
     let done = jobs::run(asked, &WHOLE, &RANDOM);
     let failed = done.print();
     #[cfg(feature = "counted")]

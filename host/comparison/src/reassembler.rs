@@ -42,11 +42,7 @@ fn any_record(inputs: &mut Inputs, header: [u8; 4], room_len: usize) -> Reassemb
         1 => 1,
         _ => inputs.byte(),
     };
-    Reassembler {
-        opened,
-        header,
-        held,
-    }
+    Reassembler { opened, header, held }
 }
 
 /// How many numbers are lent: enough, mostly.
@@ -95,11 +91,7 @@ fn sequences(tally: &mut Tally, inputs: &mut Inputs, turns: Range<usize>) {
 
 /// One piece in a room of three bytes of which a chain holds one, and in one of which no chain holds any.
 fn both_records(tally: &mut Tally, header: [u8; 4], piece: &[u8]) {
-    let open = Reassembler {
-        opened: 1,
-        header,
-        held: 1,
-    };
+    let open = Reassembler { opened: 1, header, held: 1 };
     for record in [Reassembler::CLOSED, open] {
         join(record, piece).compare(tally, 3, JOIN_NUMBERS);
     }
@@ -135,11 +127,7 @@ fn headers(tally: &mut Tally) {
     for (at, ours, theirs) in triples(0..4, 0..=255, 0..=255) {
         let (mut header, mut piece) = (HEADERS[0], HEADERS[0]);
         (header[at], piece[at]) = (ours, theirs);
-        let record = Reassembler {
-            opened: 1,
-            header,
-            held: 2,
-        };
+        let record = Reassembler { opened: 1, header, held: 2 };
         let piece = [&piece[..], &[1, 0xAA]].concat();
         join(record, &piece).compare(tally, 3, JOIN_NUMBERS);
     }

@@ -32,8 +32,7 @@ impl File {
         let [first, second] = texts.map(|text| &text.written[..]);
         let input = [first, second, numbers].concat();
         self.answers.push(operation);
-        self.answers
-            .extend(u16::try_from(input.len()).unwrap().to_be_bytes());
+        self.answers.extend(u16::try_from(input.len()).unwrap().to_be_bytes());
         self.answers.extend(input);
         self.answers.push(answer.bytes.len().try_into().unwrap());
         self.answers.extend(answer.bytes);
@@ -53,10 +52,7 @@ impl File {
             assert!(count >= LEAST, "refusal {refusal}: {count} answers");
         }
         println!("{} answers", self.count);
-        println!(
-            "of operations 1 to {OPERATIONS}: {:?}",
-            &self.operations[1..]
-        );
+        println!("of operations 1 to {OPERATIONS}: {:?}", &self.operations[1..]);
         println!("accepted: {}", self.refusals[0]);
         println!(
             "with refusals {REFUSALS:?}: {:?}",
@@ -90,11 +86,7 @@ impl Text {
     /// Under 255 bytes.
     pub fn of(bytes: &[u8]) -> Text {
         assert!(bytes.len() < 255);
-        Text {
-            bytes: bytes.to_vec(),
-            written: [&[bytes.len() as u8], bytes].concat(),
-            parts: None,
-        }
+        Text { bytes: bytes.to_vec(), written: [&[bytes.len() as u8], bytes].concat(), parts: None }
     }
 
     /// A filling between two strings of under 256 bytes.
@@ -113,22 +105,16 @@ impl Text {
         written.extend([first, step]);
         written.extend(lens);
         written.extend([before, behind].concat());
-        Text {
-            bytes,
-            written,
-            parts: Some((before.to_vec(), filling, behind.to_vec())),
-        }
+        Text { bytes, written, parts: Some((before.to_vec(), filling, behind.to_vec())) }
     }
 
     /// This string between two others.
     pub fn within(&self, front: &[u8], back: &[u8]) -> Text {
         match &self.parts {
             None => Text::of(&[front, &self.bytes, back].concat()),
-            Some((before, filling, behind)) => Text::filled(
-                &[front, before].concat(),
-                *filling,
-                &[behind, back].concat(),
-            ),
+            Some((before, filling, behind)) => {
+                Text::filled(&[front, before].concat(), *filling, &[behind, back].concat())
+            }
         }
     }
 

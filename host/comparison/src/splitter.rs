@@ -33,25 +33,11 @@ const HEADERS: [[u8; 4]; 7] = [
 ];
 
 /// Expected lengths around each boundary; Max by two numbers.
-const EXPECTED: [u32; 10] = [
-    0,
-    1,
-    255,
-    256,
-    257,
-    258,
-    65_534,
-    65_535,
-    EXPECTED_MAX,
-    u32::MAX,
-];
+const EXPECTED: [u32; 10] = [0, 1, 255, 256, 257, 258, 65_534, 65_535, EXPECTED_MAX, u32::MAX];
 
 /// Buffers around each boundary.
 fn buffers() -> impl Iterator<Item = usize> + Clone {
-    (0..=12)
-        .chain(255..=265)
-        .chain(65_530..=65_545)
-        .chain([131_072, 1 << 32, usize::MAX])
+    (0..=12).chain(255..=265).chain(65_530..=65_545).chain([131_072, 1 << 32, usize::MAX])
 }
 
 /// Lengths of data around each boundary; the last five are too long.
@@ -145,11 +131,9 @@ fn every_small_step(tally: &mut Tally, inputs: &mut Inputs) {
 /// Every class byte, and every mode byte.
 fn every_class_and_mode(tally: &mut Tally, inputs: &mut Inputs) {
     let row = inputs.bytes(300);
-    for (byte, n, available) in triples(
-        0..=u8::MAX,
-        [0, 1, 5, 255, 256, 300],
-        [9, 10, 12, 100, 261, 400],
-    ) {
+    for (byte, n, available) in
+        triples(0..=u8::MAX, [0, 1, 5, 255, 256, 300], [9, 10, 12, 100, 261, 400])
+    {
         let le = some_expected(inputs);
         let header = [byte, byte ^ 0x55, byte.wrapping_add(1), 0];
         for mode in [0, 1, 2, byte] {

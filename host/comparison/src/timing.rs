@@ -110,10 +110,7 @@ impl Lines {
             best.1 = best.1.min(ours());
         }
         let ratio = best.1 / best.0;
-        println!(
-            "{name:<36} {:>10.2} {:>10.2} {ratio:>6.2} {most:>6.2}",
-            best.0, best.1
-        );
+        println!("{name:<36} {:>10.2} {:>10.2} {ratio:>6.2} {most:>6.2}", best.0, best.1);
         if ratio > most {
             self.slow.push(name.trim().to_string());
         }
@@ -179,10 +176,7 @@ impl Lines {
     pub fn above(&self) -> bool {
         match &self.slow[..] {
             [] => println!("none takes more of the Rust's time than its limit"),
-            slow => println!(
-                "more of the Rust's time than its limit: {}",
-                slow.join("; ")
-            ),
+            slow => println!("more of the Rust's time than its limit: {}", slow.join("; ")),
         }
         !self.slow.is_empty()
     }
@@ -191,8 +185,5 @@ impl Lines {
 /// What is printed before the lines.
 pub fn head() {
     println!("nanoseconds a call, the best of {ROUNDS} rounds");
-    println!(
-        "{:36} {:>10} {:>10} {:>6} {:>6}",
-        "", "rust", "ours", "ratio", "limit"
-    );
+    println!("{:36} {:>10} {:>10} {:>6} {:>6}", "", "rust", "ours", "ratio", "limit");
 }

@@ -151,10 +151,7 @@ fn every_cut(tally: &mut Tally, inputs: &mut Inputs) {
 
 /// Long records of many small objects: the last one, at the top and in a template, one that is missing, and cut copies.
 fn long(tally: &mut Tally, inputs: &mut Inputs) {
-    for (outer, inner) in pairs(
-        [200, 60_000, 65_500, 66_000, 140_000],
-        [20, 300, 33_000, 65_500],
-    ) {
+    for (outer, inner) in pairs([200, 60_000, 65_500, 66_000, 140_000], [20, 300, 33_000, 65_500]) {
         let record = long_record(inputs, outer, inner);
         let [top, inside] = [&record.paths[0][..], &record.paths[1]];
         let len = record.bytes.len();

@@ -18,11 +18,7 @@ pub struct Reassembler {
 }
 
 impl Reassembler {
-    pub const CLOSED: Reassembler = Reassembler {
-        opened: 0,
-        header: [0; 4],
-        held: 0,
-    };
+    pub const CLOSED: Reassembler = Reassembler { opened: 0, header: [0; 4], held: 0 };
 
     /// The record of six numbers: 1, class byte, instruction byte, P1, P2, bytes held; or zeros where no chain is open.
     #[inline]
@@ -50,10 +46,7 @@ impl Reassembler {
     #[inline]
     pub fn reset(self) -> Reassembler {
         let opened = call!(gorvisclen_reset, u8 self.opened, header self.header, usize self.held);
-        Reassembler {
-            opened,
-            ..Reassembler::CLOSED
-        }
+        Reassembler { opened, ..Reassembler::CLOSED }
     }
 }
 

@@ -52,13 +52,7 @@ impl Pieces {
         let made =
             call!(gorvisclen_new_non_extended, header header, bytes data, u16 le, usize available);
         reply(made)?;
-        Ok(Pieces {
-            header,
-            le,
-            available,
-            place: 0,
-            done: false,
-        })
+        Ok(Pieces { header, le, available, place: 0, done: false })
     }
 
     /// Writes the next piece into `buffer` from the place `at`, in 5 numbers: 1 where a piece was written, and how many bytes it takes;
@@ -77,11 +71,6 @@ impl Pieces {
     /// The chain behind a piece, by the numbers that `write_next` wrote.
     #[inline]
     pub fn behind(self, [_, _, left, place, le]: [u64; PIECE_NUMBERS]) -> Pieces {
-        Pieces {
-            le: le as u16,
-            place: place as usize,
-            done: left == 0,
-            ..self
-        }
+        Pieces { le: le as u16, place: place as usize, done: left == 0, ..self }
     }
 }

@@ -39,11 +39,7 @@ pub type Vec<T, const N: usize, LenT = usize> = VecInner<T, LenT, OwnedVecStorag
 impl<T: Copy + Default, LenT: LenType, const N: usize> Vec<T, N, LenT> {
     /// As in heapless: holds no element.
     pub fn new() -> Self {
-        Self {
-            len: LenT::ZERO,
-            storage: OwnedVecStorage([T::default(); N]),
-            element: PhantomData,
-        }
+        Self { len: LenT::ZERO, storage: OwnedVecStorage([T::default(); N]), element: PhantomData }
     }
 }
 

@@ -17,21 +17,13 @@ pub fn input(commands: &[Vec<u8>], records: &[Vec<u8>]) -> Vec<u8> {
 }
 
 fn command(inputs: &mut Inputs) -> Vec<u8> {
-    let header = [
-        [0x00, 0xA4, 0x04, 0x00],
-        [0x80, 0x10, 0xFF, 0x01],
-        [0xFF, 0xB0, 0x00, 0x00],
-    ];
+    let header = [[0x00, 0xA4, 0x04, 0x00], [0x80, 0x10, 0xFF, 0x01], [0xFF, 0xB0, 0x00, 0x00]];
     let mut bytes = header[inputs.below(20).saturating_sub(17)].to_vec();
     let extended = inputs.below(2) == 1;
     let n = [0, 1, 2, 5, 255, 256, 300][inputs.below(if extended { 7 } else { 5 })];
     let le = inputs.below(2) == 1;
     if n > 0 {
-        bytes.extend(if extended {
-            vec![0, (n >> 8) as u8, n as u8]
-        } else {
-            vec![n as u8]
-        });
+        bytes.extend(if extended { vec![0, (n >> 8) as u8, n as u8] } else { vec![n as u8] });
         bytes.extend(inputs.bytes(n));
     }
     if le {
@@ -142,13 +134,8 @@ fn edges_of_form() -> Vec<Vec<u8>> {
 
 /// Records that end too early, or hold no object; and several.
 fn edges_of_records() -> Vec<Vec<u8>> {
-    let several = [
-        vec![0x5F, 0x24, 0x00],
-        vec![],
-        vec![0x5F],
-        vec![],
-        vec![0xDF, 0x81, 0x01, 0x81, 0x00],
-    ];
+    let several =
+        [vec![0x5F, 0x24, 0x00], vec![], vec![0x5F], vec![], vec![0xDF, 0x81, 0x01, 0x81, 0x00]];
     vec![
         only(&[]),
         only(&[0x00, 0x00]),

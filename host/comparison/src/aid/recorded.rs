@@ -19,12 +19,7 @@ fn part(answer: Recorded, part: Option<&[u8]>) -> Recorded {
 /// Its category and the tests for that, and its parts.
 fn told(aid: Aid, answer: Recorded) -> Recorded {
     let [_, _, tests @ .., _, _] = of_aid(&aid).map(|n| n as u8);
-    let parts = [
-        Some(aid.as_bytes()),
-        Some(aid.truncated()),
-        aid.rid(),
-        aid.pix(),
-    ];
+    let parts = [Some(aid.as_bytes()), Some(aid.truncated()), aid.rid(), aid.pix()];
     parts.into_iter().fold(answer.bytes(&tests), part)
 }
 

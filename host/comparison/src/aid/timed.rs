@@ -12,11 +12,7 @@ const OWN: &[u8] = &[0xF0; 16];
 /// What the names are made into.
 const SAMPLES: [(&str, &[u8], usize); 7] = [
     ("international, 11 bytes", PIV, 9),
-    (
-        "national, 7 bytes",
-        &[0xD2, 0x76, 0x00, 0x01, 0x24, 0x01, 0x02],
-        6,
-    ),
+    ("national, 7 bytes", &[0xD2, 0x76, 0x00, 0x01, 0x24, 0x01, 0x02], 6),
     ("standard, 5 bytes", &[0xE8, 0x28, 0xBD, 0x08, 0x0F], 5),
     ("proprietary, 16 bytes", OWN, 16),
     ("other, 1 byte", &[0x3F], 0),
@@ -44,16 +40,9 @@ pub fn time(lines: &mut Lines) {
         lines.calls(&format!("aid {words}"), &of, size);
     }
     let case = Case::of(PIV, 9);
-    for (words, asked) in [
-        ("all of it", PIV),
-        ("its truncated part", &PIV[..9]),
-        ("another", OWN),
-    ] {
-        lines.calls(
-            &format!("aid matches, {words}"),
-            &[matches(case, asked)],
-            size,
-        );
+    for (words, asked) in [("all of it", PIV), ("its truncated part", &PIV[..9]), ("another", OWN)]
+    {
+        lines.calls(&format!("aid matches, {words}"), &[matches(case, asked)], size);
     }
     let (to, out, bytes) = (16, 1, 0);
     let size = Size { to, out, bytes };

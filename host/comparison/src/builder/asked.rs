@@ -41,12 +41,7 @@ impl Given for Asked<'_> {
 impl<'a> Asked<'a> {
     #[inline]
     pub fn new(header: [u8; 4], le: u32, mode: u8, data: &'a [u8]) -> Self {
-        Asked {
-            header,
-            le,
-            mode,
-            data,
-        }
+        Asked { header, le, mode, data }
     }
 
     /// Whether only code inside of the Rust makes such a builder.

@@ -51,14 +51,9 @@ pub fn length(asked: Asked<'_>) -> impl Call<1> + '_ {
     call(
         (asked.name(names!("CommandBuilder::required_len")), &[]),
         asked,
-        |&Asked {
-             header,
-             le,
-             mode,
-             data,
-         },
-         _,
-         out| { gorvisclen::required_len(header, le, mode, data, out) },
+        |&Asked { header, le, mode, data }, _, out| {
+            gorvisclen::required_len(header, le, mode, data, out)
+        },
         |asked, _| Ok([asked.made()?.required_len() as u64].into()),
     )
     .held_to(|asked, _| {
@@ -72,14 +67,9 @@ pub fn force(asked: Asked<'_>) -> impl Call<1> + '_ {
     call(
         (asked.name(names!("CommandBuilder::force_extended")), &[]),
         asked,
-        |&Asked {
-             header,
-             le,
-             mode,
-             data,
-         },
-         _,
-         out| { gorvisclen::force_extended(header, le, mode, data, out) },
+        |&Asked { header, le, mode, data }, _, out| {
+            gorvisclen::force_extended(header, le, mode, data, out)
+        },
         |asked, _| Ok([asked.made()?.force_extended().required_len() as u64].into()),
     )
     .held_to(|asked, _| {
@@ -104,17 +94,9 @@ pub fn equals<'a>(asked: Asked<'a>, apdu: &'a [u8]) -> impl Call<1> + 'a {
     call(
         (asked.name(names!("CommandBuilder == CommandView")), &[]),
         (asked, Hex(apdu)),
-        |&(
-            Asked {
-                header,
-                le,
-                mode,
-                data,
-            },
-            apdu,
-        ),
-         _,
-         out| { gorvisclen::builder_eq(header, le, mode, data, &apdu, out) },
+        |&(Asked { header, le, mode, data }, apdu), _, out| {
+            gorvisclen::builder_eq(header, le, mode, data, &apdu, out)
+        },
         |(asked, apdu), _| {
             let builder = asked.made()?;
             let view = CommandView::try_from(apdu.0).map_err(|_| 5)?;
@@ -138,17 +120,9 @@ pub fn write(asked: Asked<'_>, at: usize) -> impl Call<1> + '_ {
     call(
         (asked.name(names!("CommandBuilder::serialize_into")), &[]),
         (asked, at),
-        |&(
-            Asked {
-                header,
-                le,
-                mode,
-                data,
-            },
-            at,
-        ),
-         to,
-         out| { gorvisclen::serialize_into(header, le, mode, data, to, at, out) },
+        |&(Asked { header, le, mode, data }, at), to, out| {
+            gorvisclen::serialize_into(header, le, mode, data, to, at, out)
+        },
         |&(asked, at), to_len| {
             let builder = asked.made()?;
             let mut written = vec![0; to_len.checked_sub(at).ok_or(16)?];
@@ -157,12 +131,7 @@ pub fn write(asked: Asked<'_>, at: usize) -> impl Call<1> + '_ {
             let n = to_len - at - rest.len();
             assert_eq!(n, builder.required_len());
             written.truncate(n);
-            let Asked {
-                header,
-                le,
-                mode,
-                data,
-            } = asked;
+            let Asked { header, le, mode, data } = asked;
             asked.same(&written, &model::command(header, le, mode, data));
             Ok(Left::written([n as u64], at, written))
         },
@@ -175,12 +144,7 @@ pub fn write(asked: Asked<'_>, at: usize) -> impl Call<1> + '_ {
 
 /// Holds what is written from a place to be read again, in both readings.
 pub fn read_back(tally: &mut Tally, asked: Asked, at: usize) {
-    let Asked {
-        header,
-        le,
-        mode,
-        data,
-    } = asked;
+    let Asked { header, le, mode, data } = asked;
     let mut buffer = vec![0xEE; at + asked.len_in(mode) + 3];
     let mut written = [0];
     // A refusal leaves nothing to read, which is then seen.

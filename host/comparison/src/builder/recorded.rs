@@ -10,9 +10,8 @@ use crate::loops::triples;
 use crate::panics::unless_it_panics;
 use crate::record::{some_header, three, File, Recorded, Text};
 
-pub const LENGTHS: [usize; 17] = [
-    0, 1, 2, 3, 5, 20, 21, 254, 255, 256, 257, 600, 65_524, 65_534, 65_535, 65_536, 65_540,
-];
+pub const LENGTHS: [usize; 17] =
+    [0, 1, 2, 3, 5, 20, 21, 254, 255, 256, 257, 600, 65_524, 65_534, 65_535, 65_536, 65_540];
 pub const EXPECTED: [usize; 10] = [0, 1, 2, 255, 256, 257, 258, 65_534, 65_535, 65_536];
 
 /// What a builder is asked for, without its data.
@@ -115,21 +114,13 @@ pub fn some_fields(inputs: &mut Inputs) -> Fields {
         1 => inputs.below(65_537),
         _ => inputs.one_of(&EXPECTED),
     };
-    Fields {
-        header: some_header(inputs),
-        le,
-        mode: inputs.below(3) as u8,
-    }
+    Fields { header: some_header(inputs), le, mode: inputs.below(3) as u8 }
 }
 
 /// A builder with data and an expected length at a boundary; some of them forced and compared.
 fn at_boundary(file: &mut File, inputs: &mut Inputs, (len, le, mode): (usize, usize, u8)) {
     let data = Text::some(inputs, len);
-    let asked = Fields {
-        le,
-        mode,
-        ..some_fields(inputs)
-    };
+    let asked = Fields { le, mode, ..some_fields(inputs) };
     add_build(file, asked, &data);
     let turn = len + le + usize::from(mode);
     if turn % 4 == 0 {

@@ -29,10 +29,7 @@ const LENGTHS: [(usize, &str); 7] = [
     (65_535, "65,535 bytes"),
 ];
 
-const MODES: [(u8, &str); 2] = [
-    (EXTENDED_SUPPORTED, "supported"),
-    (EXTENDED_FORCED, "forced"),
-];
+const MODES: [(u8, &str); 2] = [(EXTENDED_SUPPORTED, "supported"), (EXTENDED_FORCED, "forced")];
 
 /// The most bytes that a command takes.
 const LONGEST: usize = 4 + 3 + 65_535 + 2;
@@ -53,11 +50,7 @@ fn writing(lines: &mut Lines) {
     {
         let data = vec![0xAA; n];
         let asked = Asked::new(HEADER, le, mode, &data);
-        let size = Size {
-            to: LONGEST,
-            out: 1,
-            bytes: n,
-        };
+        let size = Size { to: LONGEST, out: 1, bytes: n };
         lines.sides(
             (&format!("write {of_mode}, {words}{with}"), most(n)),
             size,
@@ -79,10 +72,9 @@ pub fn time(lines: &mut Lines) {
     writing(lines);
     let data = [0xAA; 4_096];
     let size = Size::default();
-    for ((mode, of_mode), (n, words)) in pairs(
-        MODES,
-        [(0, "no data"), (16, "16 bytes"), (256, "256 bytes")],
-    ) {
+    for ((mode, of_mode), (n, words)) in
+        pairs(MODES, [(0, "no data"), (16, "16 bytes"), (256, "256 bytes")])
+    {
         let of = [length(Asked::new(HEADER, 256, mode, &data[..n]))];
         lines.calls(&format!("length {of_mode}, {words}, Le"), &of, size);
     }

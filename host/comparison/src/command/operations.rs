@@ -71,10 +71,7 @@ impl Given for Asked<'_> {
 pub fn parse(asked: Asked<'_>) -> impl Call<COMMAND_NUMBERS> + '_ {
     let names: Names = match asked.reading {
         CRATE_READING => ("CommandView::try_from", &NUMBERS),
-        _ => (
-            by_table(&asked.apdu).map_or(NO_CASE, |parsed| parsed.operation),
-            &[],
-        ),
+        _ => (by_table(&asked.apdu).map_or(NO_CASE, |parsed| parsed.operation), &[]),
     };
     call(
         names,
@@ -225,8 +222,5 @@ fn extend_held<const S: usize>(
         assert!(same, "the Rust's extensions part: {:?}", Hex(apdu));
     }
     let left = Left::written(of_owned(held), 0, held.data().to_vec());
-    Left {
-        refused: done.is_err().then_some(18),
-        ..left
-    }
+    Left { refused: done.is_err().then_some(18), ..left }
 }

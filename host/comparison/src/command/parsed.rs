@@ -36,11 +36,7 @@ pub fn by_rust(apdu: &[u8]) -> Result<Parsed<'_>, u8> {
         view.expected() as u64,
         view.extended.into(),
     ];
-    Ok(Parsed {
-        operation: "CommandView::try_from",
-        numbers,
-        data,
-    })
+    Ok(Parsed { operation: "CommandView::try_from", numbers, data })
 }
 
 /// The numbers of an owned command.

@@ -11,27 +11,20 @@ use crate::record::{some_header, three, File, Recorded, Text};
 const SIZES: [usize; 12] = [0, 1, 2, 5, 16, 31, 64, 255, 256, 300, 1_024, 65_535];
 
 /// Data that are held, and those that are new: the first of both fill a room together, and so on.
-const HELD: [usize; 20] = [
-    0, 0, 1, 1, 0, 2, 5, 16, 31, 0, 127, 255, 255, 1, 200, 24, 1_000, 65_000, 32_768, 65_535,
-];
-const NEW: [usize; 20] = [
-    0, 1, 0, 1, 2, 3, 11, 15, 33, 64, 128, 0, 1, 255, 100, 1_000, 24, 535, 32_767, 0,
-];
+const HELD: [usize; 20] =
+    [0, 0, 1, 1, 0, 2, 5, 16, 31, 0, 127, 255, 255, 1, 200, 24, 1_000, 65_000, 32_768, 65_535];
+const NEW: [usize; 20] =
+    [0, 1, 0, 1, 2, 3, 11, 15, 33, 64, 128, 0, 1, 255, 100, 1_000, 24, 535, 32_767, 0];
 
 /// Header, expected length, and whether it is extended.
 fn told(header: &[u64], expected: u64, extended: u64, answer: Recorded) -> Recorded {
     let header: Vec<u8> = header.iter().map(|&n| n as u8).collect();
-    answer
-        .bytes(&header)
-        .number(expected as usize)
-        .byte(extended as u8)
+    answer.bytes(&header).number(expected as usize).byte(extended as u8)
 }
 
 fn view(Parsed { numbers, data, .. }: Parsed, answer: Recorded) -> Recorded {
     let [header @ .., place, len, expected, extended] = &numbers;
-    told(header, *expected, *extended, answer)
-        .numbers(&[*place, *len])
-        .string(data)
+    told(header, *expected, *extended, answer).numbers(&[*place, *len]).string(data)
 }
 
 fn of_command<const S: usize>(command: &Command<S>, answer: Recorded) -> Recorded {
@@ -93,9 +86,7 @@ fn long(inputs: &mut Inputs, lc: u16, len: usize, behind: usize) -> Text {
 /// Commands of every case, and such as are next to one.
 pub fn commands(inputs: &mut Inputs) -> Vec<Text> {
     let mut texts = Vec::new();
-    for len in [
-        0, 1, 2, 3, 0, 1, 2, 3, 4, 4, 4, 5, 5, 5, 5, 6, 6, 6, 7, 7, 7, 7, 8, 9,
-    ] {
+    for len in [0, 1, 2, 3, 0, 1, 2, 3, 4, 4, 4, 5, 5, 5, 5, 6, 6, 6, 7, 7, 7, 7, 8, 9] {
         let header = some_header(inputs);
         let mut bytes = [&header[..], &inputs.bytes(5)].concat();
         bytes.truncate(len);

@@ -4,10 +4,7 @@ use super::parsed::Parsed;
 
 macro_rules! standard {
     ($operation:literal) => {
-        concat!(
-            $operation,
-            ", standard reading (held to a table of ISO/IEC 7816-3)"
-        )
+        concat!($operation, ", standard reading (held to a table of ISO/IEC 7816-3)")
     };
 }
 

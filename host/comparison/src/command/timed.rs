@@ -34,11 +34,7 @@ fn samples() -> Vec<(&'static str, &'static str, Vec<u8>)> {
         ("extended", "case 2E", body(0, 0, &[0, 1, 0])),
         ("extended", "case 3E, 16 bytes", body(3, 16, &[])),
         ("extended", "case 3E, 256 bytes", body(3, 256, &[])),
-        (
-            "extended",
-            "case 4E, 65,535 bytes",
-            body(3, 65_535, &[0, 0]),
-        ),
+        ("extended", "case 4E, 65,535 bytes", body(3, 65_535, &[0, 0])),
         ("refused", "1, under 4 bytes", HEADER[..3].to_vec()),
         ("refused", "3, class FF", vec![0xFF, 0xA4, 0x04, 0x00]),
         ("refused", "4, a byte too few", less(body(1, 16, &[]))),
@@ -75,11 +71,7 @@ fn copies<const N: usize>(lines: &mut Lines, words: &str) {
     let command = Command::<N>::try_from(&apdu).unwrap();
     check(&name, (0, of_owned(&command)), (told(reply), out));
     check(&name, &command.data()[..], &room);
-    let size = Size {
-        to: N,
-        out: OWNED_NUMBERS,
-        bytes: 0,
-    };
+    let size = Size { to: N, out: OWNED_NUMBERS, bytes: 0 };
     lines.giving(
         (&name, NO_LIMIT),
         size,
@@ -130,11 +122,7 @@ fn extending<const N: usize>(lines: &mut Lines, words: &str) {
     check(&name, of_owned(&held), out);
     check(&name, &held.data()[..], &room[..]);
     let rust = || best_of(40, || extended_by_rust(&piece, &mut none_held::<N>()));
-    let ours = || {
-        best_of(40, || {
-            extended_by_ours(&piece, &mut vec![1; N], &mut out.clone())
-        })
-    };
+    let ours = || best_of(40, || extended_by_ours(&piece, &mut vec![1; N], &mut out.clone()));
     lines.time(&name, NO_LIMIT, rust, ours);
 }
 

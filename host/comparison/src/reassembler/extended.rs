@@ -26,10 +26,7 @@ pub struct Room {
 
 impl Room {
     const fn of<const S: usize>() -> Self {
-        Room {
-            len: S,
-            beside: beside::<S>,
-        }
+        Room { len: S, beside: beside::<S> }
     }
 }
 

@@ -100,11 +100,7 @@ impl Run {
         let reply = leave(&demanded, self.demanded.part(), told.part());
         let our_reply = record.join(piece, self.room.part(), out.part());
         if (reply, &told, &self.demanded) == (our_reply, &out, &self.room) {
-            tally.count(
-                (name, &[]),
-                demanded.as_ref().err().copied().unwrap_or(0),
-                1,
-            );
+            tally.count((name, &[]), demanded.as_ref().err().copied().unwrap_or(0), 1);
         } else {
             let theirs = Outcome::new(reply, told, self.demanded.clone());
             let ours = Outcome::new(our_reply, out, self.room.clone());
@@ -175,11 +171,7 @@ impl Run {
 fn run(tally: &mut Tally, inputs: &mut Inputs, commands: &[Command], more: usize, most: usize) {
     let longest = commands.iter().map(|command| command.data.len()).max();
     let room = bytes(longest.unwrap_or(0) + more);
-    let mut run = Run {
-        record: Reassembler::CLOSED,
-        demanded: room.clone(),
-        room,
-    };
+    let mut run = Run { record: Reassembler::CLOSED, demanded: room.clone(), room };
     for command in commands {
         run.command(tally, inputs, command, most);
         assert_eq!(run.record, Reassembler::CLOSED);
@@ -208,12 +200,8 @@ pub fn compare(tally: &mut Tally, inputs: &mut Inputs, turns: Range<usize>) {
 /// The longest data, a byte in each piece and in the longest pieces.
 pub fn longest(tally: &mut Tally, inputs: &mut Inputs) {
     for (available, le) in [(10, 1), (10, 0), (BUFFER_LEN, 256), (BUFFER_LEN, 0)] {
-        let command = Command {
-            header: [0x80, 0xDB, 0x3F, 0xFF],
-            le,
-            data: inputs.bytes(65_535),
-            available,
-        };
+        let command =
+            Command { header: [0x80, 0xDB, 0x3F, 0xFF], le, data: inputs.bytes(65_535), available };
         run(tally, inputs, &[command], le.into(), 1);
     }
 }

@@ -39,10 +39,7 @@ pub fn join(record: Reassembler, piece: &[u8], room_len: usize) -> Result<Joined
     }
     let from = if open { record.held } else { 0 };
     let data = parsed.data;
-    let len = from
-        .checked_add(data.len())
-        .filter(|&len| len <= room_len)
-        .ok_or(18)? as u64;
+    let len = from.checked_add(data.len()).filter(|&len| len <= room_len).ok_or(18)? as u64;
     let mut numbers = [0; JOIN_NUMBERS];
     if header[0] & BIT == BIT {
         numbers[8..].copy_from_slice(&[1, class, instruction, p1, p2, len]);
@@ -51,9 +48,5 @@ pub fn join(record: Reassembler, piece: &[u8], room_len: usize) -> Result<Joined
         let command = [1, class, instruction, p1, p2, len, expected, extended];
         numbers[..8].copy_from_slice(&command);
     }
-    Ok(Joined {
-        from,
-        data,
-        numbers,
-    })
+    Ok(Joined { from, data, numbers })
 }

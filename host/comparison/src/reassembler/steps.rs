@@ -27,15 +27,13 @@ pub fn join(record: Reassembler, piece: &[u8]) -> impl Call<JOIN_NUMBERS> + '_ {
             Ok(Left::written(joined.numbers, joined.from, joined.data))
         },
     )
-    .counted(
-        |(Reassembler { opened, header, .. }, _), _, answer| match answer {
-            Ok(left) if left.numbers[0] == 0 => Some((MORE, &[])),
-            Ok(_) if *opened == 0 => Some((SINGLE, &[])),
-            Ok(_) => Some((SEVERAL, &[])),
-            Err(_) if *opened != 0 && header[0] == 0xFF => Some((NO_RECORD, &[])),
-            Err(_) => None,
-        },
-    )
+    .counted(|(Reassembler { opened, header, .. }, _), _, answer| match answer {
+        Ok(left) if left.numbers[0] == 0 => Some((MORE, &[])),
+        Ok(_) if *opened == 0 => Some((SINGLE, &[])),
+        Ok(_) => Some((SEVERAL, &[])),
+        Err(_) if *opened != 0 && header[0] == 0xFF => Some((NO_RECORD, &[])),
+        Err(_) => None,
+    })
 }
 
 /// Compares a piece in a room, and gives the record after it. The room is as it has to be after it.

@@ -39,12 +39,7 @@ fn cut(available: usize) -> Vec<Vec<u8>> {
     let data = (0..LEN).map(|i| (i / 254) as u8).collect();
     let header = HEADER;
     let le = 0;
-    let command = lists::Command {
-        header,
-        le,
-        data,
-        available,
-    };
+    let command = lists::Command { header, le, data, available };
     command.pieces()
 }
 
@@ -80,11 +75,7 @@ fn empty() -> Box<Held> {
 
 fn rust(pieces: &[Vec<u8>], held: &mut Held) -> f64 {
     let start = Instant::now();
-    check(
-        "join",
-        0,
-        black_box(by_rust(black_box(pieces), black_box(held))),
-    );
+    check("join", 0, black_box(by_rust(black_box(pieces), black_box(held))));
     start.elapsed().as_nanos() as f64
 }
 
@@ -107,11 +98,7 @@ pub fn time(lines: &mut Lines) {
         check(name, (1, &of_owned(&held)[..]), (out[0], &out[1..8]));
         check(name, &held.data()[..], &room[..]);
         let rust = || best_of(CALLS, || rust(&pieces, &mut empty()));
-        let ours = || {
-            best_of(CALLS, || {
-                ours(&pieces, &mut vec![1; LEN], &mut [0; JOIN_NUMBERS])
-            })
-        };
+        let ours = || best_of(CALLS, || ours(&pieces, &mut vec![1; LEN], &mut [0; JOIN_NUMBERS]));
         lines.time(name, MOST, rust, ours);
     }
 }

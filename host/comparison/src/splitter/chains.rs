@@ -42,12 +42,7 @@ fn new(asked: Asked<'_>) -> impl Call<0> + '_ {
         (name, &[]),
         asked,
         |asked, _, _| {
-            let Pieces {
-                header,
-                le,
-                available,
-                ..
-            } = asked.chain;
+            let Pieces { header, le, available, .. } = asked.chain;
             let chain = Pieces::new_non_extended(header, &asked.data, le, available)?;
             assert_eq!(chain, asked.chain);
             Ok(())
@@ -68,9 +63,7 @@ fn left<'a>(piece: Option<rust::Piece>, at: usize) -> Left<'a, PIECE_NUMBERS> {
 fn next(asked: Asked<'_>, at: usize) -> impl Call<PIECE_NUMBERS> + '_ {
     let name = match asked.chain {
         Pieces { done: true, .. } => DONE,
-        Pieces {
-            available: 0..10, ..
-        } => NEXT_SMALL,
+        Pieces { available: 0..10, .. } => NEXT_SMALL,
         _ => NEXT_AT,
     };
     call(
@@ -78,13 +71,7 @@ fn next(asked: Asked<'_>, at: usize) -> impl Call<PIECE_NUMBERS> + '_ {
         (asked, at),
         |&(Asked { chain, data }, at), to, out| chain.write_next(&data, to, at, out),
         |&(asked, at), _| {
-            let Pieces {
-                header,
-                le,
-                available,
-                place,
-                done,
-            } = asked.chain;
+            let Pieces { header, le, available, place, done } = asked.chain;
             if done {
                 return Ok(left(None, at));
             }
@@ -99,25 +86,14 @@ fn next(asked: Asked<'_>, at: usize) -> impl Call<PIECE_NUMBERS> + '_ {
 
 impl<'a> Asked<'a> {
     pub fn new(header: [u8; 4], data: &'a [u8], le: u16, available: usize) -> Self {
-        let chain = Pieces {
-            header,
-            le,
-            available,
-            place: 0,
-            done: false,
-        };
+        let chain = Pieces { header, le, available, place: 0, done: false };
         let data = Hex(data);
         Asked { chain, data }
     }
 
     /// The chain of the Rust; 14 for a buffer under 10, behind its own refusals.
     fn of_rust(&self) -> Result<rust::Chain<'a>, u8> {
-        let Pieces {
-            header,
-            le,
-            available,
-            ..
-        } = self.chain;
+        let Pieces { header, le, available, .. } = self.chain;
         let made = rust::Chain::new(header, self.data.0, le, available)?;
         match available {
             0..=9 => Err(14),

@@ -22,10 +22,7 @@ fn add_step(file: &mut File, asked: &Fields, data: &Text, available: usize) {
         };
         match split {
             0 => answer.byte(0),
-            _ => fields(
-                fields(answer.byte(1).number(n as usize), (class, le)),
-                (kept, kept_le),
-            ),
+            _ => fields(fields(answer.byte(1).number(n as usize), (class, le)), (kept, kept_le)),
         }
     };
     let answer = Recorded::of(step(&asked.of(data), available), told);
@@ -78,11 +75,7 @@ fn add_chain(file: &mut File, asked: &Fields, data: &Text, available: usize) {
 fn steps(file: &mut File, inputs: &mut Inputs) {
     for (len, le, mode) in triples(LENGTHS, EXPECTED, 0..3) {
         let data = Text::some(inputs, len);
-        let asked = Fields {
-            le,
-            mode,
-            ..some_fields(inputs)
-        };
+        let asked = Fields { le, mode, ..some_fields(inputs) };
         let available = some_buffer(inputs);
         add_step(file, &asked, &data, available);
         if let Ok(builder) = asked.of(&data).made() {
@@ -101,11 +94,7 @@ fn steps(file: &mut File, inputs: &mut Inputs) {
 fn chains(file: &mut File, inputs: &mut Inputs) {
     let short = |inputs: &mut Inputs, le: usize| {
         let mode = 0;
-        Fields {
-            le,
-            mode,
-            ..some_fields(inputs)
-        }
+        Fields { le, mode, ..some_fields(inputs) }
     };
     for (len, le) in pairs(LENGTHS, [0, 1, 255, 256, 257, 65_535]) {
         let data = Text::some(inputs, len);

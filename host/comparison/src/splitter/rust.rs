@@ -23,10 +23,7 @@ pub fn step(asked: &Asked, available: usize) -> Result<[u64; SPLIT_NUMBERS], u8>
         && later.data().as_ptr() == all[n..].as_ptr()
         && n + later.data().len() == all.len();
     let same = [now_rest, later_rest] == [rest; 2] && [now_mode, later_mode] == [mode; 2];
-    assert!(
-        whole && same,
-        "the Rust's parts are not what is told: {asked:?}"
-    );
+    assert!(whole && same, "the Rust's parts are not what is told: {asked:?}");
     let [class, kept] = [class, kept].map(u64::from);
     Ok([1, n as u64, class, expected(le), kept, expected(kept_le)])
 }

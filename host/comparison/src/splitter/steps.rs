@@ -27,26 +27,16 @@ pub fn step(asked: Asked<'_>, available: usize) -> impl Call<SPLIT_NUMBERS> + '_
     call(
         (name, &[]),
         (asked, available),
-        |&(
-            Asked {
-                header,
-                le,
-                mode,
-                data,
-            },
-            available,
-        ),
-         _,
-         out| { gorvisclen::should_split(header, le, mode, data, available, out) },
+        |&(Asked { header, le, mode, data }, available), _, out| {
+            gorvisclen::should_split(header, le, mode, data, available, out)
+        },
         |(asked, available), _| Ok(rust::step(asked, *available)?.into()),
     )
 }
 
 /// Both parts, written by the numbers told.
 fn written(asked: Asked, available: usize) -> [Vec<u8>; 2] {
-    let Asked {
-        header, mode, data, ..
-    } = asked;
+    let Asked { header, mode, data, .. } = asked;
     let mut told = [0; SPLIT_NUMBERS];
     // A refusal leaves zeros, which are then seen.
     let _ = step(asked, available).ours(&mut [], &mut told);

@@ -17,11 +17,8 @@ use crate::timing::{apart, checked, told, Lines, Size, HEADER, NO_LIMIT};
 const MOST: f64 = 1.10;
 
 /// How many data bytes are cut, in numbers and in words: about the longest, a tenth and a hundredth of it.
-const LENGTHS: [(usize, &str); 3] = [
-    (655, "655 bytes"),
-    (6_553, "6,553 bytes"),
-    (65_535, "65,535 bytes"),
-];
+const LENGTHS: [(usize, &str); 3] =
+    [(655, "655 bytes"), (6_553, "6,553 bytes"), (65_535, "65,535 bytes")];
 
 fn one_step(lines: &mut Lines, name: &str, data: &[u8]) {
     let asked = Asked::new(HEADER, 256, EXTENDED_SUPPORTED, data);
@@ -48,11 +45,7 @@ fn by_rust(sample: &Sample, buffer: &mut [u8], out: &mut [u64]) -> u8 {
     let Ok(class) = Class::try_from(class) else {
         return 3;
     };
-    let &Sample {
-        le,
-        data,
-        available,
-    } = sample;
+    let &Sample { le, data, available } = sample;
     let (instruction, len) = (instruction.into(), Some(available));
     let chain = CommandBuilder::new_non_extended(class, instruction, p1, p2, data, le, len);
     out.fill(0);
@@ -84,21 +77,13 @@ fn by_ours(sample: &Sample, buffer: &mut [u8], out: &mut [u64]) -> Reply {
 pub fn time(lines: &mut Lines) {
     let data = [0xAA; 65_535];
     for (n, words) in [(254, "fits"), (655, "655 bytes")] {
-        one_step(
-            lines,
-            &format!("one step for {BUFFER_LEN}, {words}"),
-            &data[..n],
-        );
+        one_step(lines, &format!("one step for {BUFFER_LEN}, {words}"), &data[..n]);
     }
     for (available, (n, words), (le, with)) in
         triples([BUFFER_LEN, 10], LENGTHS, [(0, ""), (256, ", Le")])
     {
         let data = &data[..n];
-        let sample = Sample {
-            le,
-            data,
-            available,
-        };
+        let sample = Sample { le, data, available };
         let (to, out, bytes) = (available, 2, 40 * n);
         lines.sides(
             (&format!("cut for {available}, {words}{with}"), MOST),

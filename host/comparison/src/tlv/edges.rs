@@ -21,9 +21,7 @@ const READINGS: [u8; 2] = [CRATE_READING, STANDARD_READING];
 /// Bytes from their hex digits, two for each; blanks between.
 fn unhex(digits: &str) -> Vec<u8> {
     let bytes = digits.split_whitespace();
-    bytes
-        .map(|byte| u8::from_str_radix(byte, 16).unwrap())
-        .collect()
+    bytes.map(|byte| u8::from_str_radix(byte, 16).unwrap()).collect()
 }
 
 /// Holds calls to replies that are written down.
@@ -38,8 +36,7 @@ impl Written<'_> {
         let bytes = unhex(bytes);
         for (reading, answer) in READINGS.into_iter().zip(answers) {
             let answer = answer.map(|numbers| numbers.into());
-            of.of(reading, &bytes)
-                .written(self.tally, self.operation, &answer, 0);
+            of.of(reading, &bytes).written(self.tally, self.operation, &answer, 0);
         }
     }
 

@@ -66,12 +66,7 @@ pub trait Front<const N: usize>: Copy + Given {
                 let theirs = outcome(demanded, &wanted).reading(before.to_vec());
                 let ours = outcome(reply, &out).reading(string.to_vec());
                 let input = || format!("{:?}", self.of(reading, bytes));
-                tally.compare(
-                    Self::NAMES.of(reading, answer.is_ok()),
-                    input,
-                    &theirs,
-                    &ours,
-                );
+                tally.compare(Self::NAMES.of(reading, answer.is_ok()), input, &theirs, &ours);
             }
             wanted.clone_from(&first);
             out.clone_from(&first);

@@ -47,11 +47,7 @@ impl Given for Lookup<'_> {
 impl<'a> Lookup<'a> {
     pub fn of(reading: u8, record: &'a [u8], path: &'a [u32]) -> Self {
         let (record, path) = (Hex(record), Hex(path));
-        Lookup {
-            reading,
-            record,
-            path,
-        }
+        Lookup { reading, record, path }
     }
 
     /// What has to be found: in the crate's reading what the Rust finds, and else by the model.

@@ -15,10 +15,7 @@ pub struct Names {
 
 macro_rules! standard {
     ($operation:literal) => {
-        concat!(
-            $operation,
-            ", standard reading (held to a model of EMV Book 3 Annex B)"
-        )
+        concat!($operation, ", standard reading (held to a model of EMV Book 3 Annex B)")
     };
 }
 
@@ -37,12 +34,8 @@ pub const TAG: Names = names!("take_tag", "the tag", "how many bytes it takes");
 
 pub const LEN: Names = names!("take_len", "the length", "how many bytes it takes");
 
-pub const OBJECT: Names = names!(
-    "take_data_object",
-    "the tag",
-    "the value's place",
-    "the value's length"
-);
+pub const OBJECT: Names =
+    names!("take_data_object", "the tag", "the value's place", "the value's length");
 
 pub const LOOKUP: Names = names!("get_data_object", "the value's place", "the value's length");
 

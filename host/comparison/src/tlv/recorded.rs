@@ -174,23 +174,13 @@ fn nested_lookups(file: &mut File, inputs: &mut Inputs) {
 }
 
 /// Rows of one byte, which are small objects: how many bytes, and the byte.
-const FILLINGS: [(usize, u8); 6] = [
-    (7, 5),
-    (700, 5),
-    (65_002, 5),
-    (64_999, 2),
-    (65_530, 0),
-    (601, 5),
-];
+const FILLINGS: [(usize, u8); 6] =
+    [(7, 5), (700, 5), (65_002, 5), (64_999, 2), (65_530, 0), (601, 5)];
 
 /// Many small objects, and the one that is asked for behind them.
 fn lookups_behind(file: &mut File) {
     for (len, first) in FILLINGS {
-        let filling = Filling {
-            len,
-            first,
-            step: 0,
-        };
+        let filling = Filling { len, first, step: 0 };
         let text = Text::filled(&[], filling, &[0x5F, 0x24, 0x03, 0x26, 0x10, 0x09]);
         for path in [&[0x5F24][..], &[u32::from(first)], &[0x5F25], &[0x26], &[]] {
             add_lookup(file, &text, path);

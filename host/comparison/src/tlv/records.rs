@@ -48,9 +48,7 @@ pub fn length_forms(n: usize) -> Vec<Vec<u8>> {
     let [.., high, low] = n.to_be_bytes();
     let forms = [(0x7F, vec![low]), (0xFF, vec![0x81, low])];
     let fits = forms.into_iter().filter(|(most, _)| n <= *most);
-    fits.map(|(_, form)| form)
-        .chain([vec![0x82, high, low]])
-        .collect()
+    fits.map(|(_, form)| form).chain([vec![0x82, high, low]]).collect()
 }
 
 /// A length, written in the shortest form or in another.
@@ -90,8 +88,7 @@ impl Record {
         self.bytes.extend(value.bytes);
         self.paths.push(vec![tag]);
         let inner = value.paths.into_iter();
-        self.paths
-            .extend(inner.map(|path| [&[tag], &path[..]].concat()));
+        self.paths.extend(inner.map(|path| [&[tag], &path[..]].concat()));
     }
 }
 
@@ -99,10 +96,7 @@ impl Record {
 pub fn some_record(inputs: &mut Inputs, depth: usize) -> Record {
     if depth == 0 {
         let bytes = some_value(inputs);
-        return Record {
-            bytes,
-            paths: Vec::new(),
-        };
+        return Record { bytes, paths: Vec::new() };
     }
     let mut record = Record::default();
     let objects = 1 + inputs.below(4);

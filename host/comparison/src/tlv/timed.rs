@@ -18,12 +18,8 @@ use crate::timing::{apart, check, checked, told, Lines, Size, NO_LIMIT};
 const MOST: f64 = 1.50;
 
 /// What is looked for, and its tag. The last one is in no record.
-const ASKED: [(&str, u32); 4] = [
-    ("first", 0x5A),
-    ("middle", 0x5F24),
-    ("last", 0xDF8101),
-    ("missing", 0x9F36),
-];
+const ASKED: [(&str, u32); 4] =
+    [("first", 0x5A), ("middle", 0x5F24), ("last", 0xDF8101), ("missing", 0x9F36)];
 
 /// The tags of the other objects.
 const OTHERS: [u32; 8] = [0xC1, 0x5F25, 0x50, 0xDF8102, 0x9F1F, 0x87, 0x5F20, 0xC2];
@@ -78,12 +74,9 @@ fn fronts(lines: &mut Lines) {
         ("65,535 bytes", &object(65_535)),
         ("refused 12", &object(200)[..100]),
     ];
-    front(
-        lines,
-        ("take_data_object", front::Object),
-        &objects,
-        |bytes| take_data_object(bytes).map(|(tag, value, _)| (tag, place_of(value, bytes))),
-    );
+    front(lines, ("take_data_object", front::Object), &objects, |bytes| {
+        take_data_object(bytes).map(|(tag, value, _)| (tag, place_of(value, bytes)))
+    });
 }
 
 fn put_by_rust(object: &Object, to: &mut [u8], out: &mut [u64]) -> u8 {
@@ -141,10 +134,7 @@ fn copy(sample: &Sample, to: &mut [u8], out: &mut [u64]) -> u8 {
 
 impl<'a> Sample<'a> {
     fn of(record: &'a [u8], path: &'a [u32; 1]) -> Self {
-        Sample {
-            lookup: Lookup::of(CRATE_READING, record, path),
-            tags: [tag(&path[0]).unwrap()],
-        }
+        Sample { lookup: Lookup::of(CRATE_READING, record, path), tags: [tag(&path[0]).unwrap()] }
     }
 
     /// Our lookup, and the part of the record that it tells.
@@ -203,36 +193,24 @@ fn lookups<'a>(lines: &mut Lines, name: &str, samples: &[Sample<'a>]) {
         Some(value) => place_of(value, &sample.lookup.record).start,
         None => sample.lookup.record.len(),
     };
-    let size = Size {
-        to: 0,
-        out: LOOKUP_NUMBERS,
-        bytes: samples.iter().map(walked).max().unwrap(),
-    };
+    let size =
+        Size { to: 0, out: LOOKUP_NUMBERS, bytes: samples.iter().map(walked).max().unwrap() };
     let finds: Vec<_> = samples.iter().map(|sample| find(sample.lookup)).collect();
     let sides = (samples, &finds[..]);
-    lines.sides((name, MOST), size, sides, place, |find, to, out| {
-        told(find.ours(to, out))
-    });
+    lines.sides((name, MOST), size, sides, place, |find, to, out| told(find.ours(to, out)));
     let name = format!("{name}, as a slice");
     for sample in samples {
         let part = |value: Option<&[u8]>| value.map(|value| (value.as_ptr(), value.len()));
-        check(
-            &name,
-            part(value_of(sample)),
-            part(sample.slice(&mut [], &mut [7; 2])),
-        );
+        check(&name, part(value_of(sample)), part(sample.slice(&mut [], &mut [7; 2])));
     }
     lines.giving((&name, NO_LIMIT), size, samples, value_of, Sample::slice);
 }
 
 pub fn time(lines: &mut Lines) {
     fronts(lines);
-    for (n, words) in [
-        (0, "no bytes"),
-        (16, "16 bytes"),
-        (255, "255 bytes"),
-        (4_096, "4,096 bytes"),
-    ] {
+    for (n, words) in
+        [(0, "no bytes"), (16, "16 bytes"), (255, "255 bytes"), (4_096, "4,096 bytes")]
+    {
         writing(lines, words, n);
     }
     for (n, words) in [(16, "16 bytes"), (255, "255 bytes"), (4_096, "4,096 bytes")] {

@@ -121,10 +121,8 @@ fn every_place(tally: &mut Tally, inputs: &mut Inputs) {
         let value = &inputs.bytes(n);
         let object = Object::of(three_bytes(tag), value);
         for buffer_len in 0..=12 {
-            for (at, len) in pairs(
-                (0..=buffer_len + 3).chain([usize::MAX - 1, usize::MAX]),
-                0..=2,
-            ) {
+            for (at, len) in pairs((0..=buffer_len + 3).chain([usize::MAX - 1, usize::MAX]), 0..=2)
+            {
                 object.write(tally, buffer_len, at, len);
             }
         }
