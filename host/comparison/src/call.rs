@@ -7,7 +7,7 @@ use std::fmt::Debug;
 use gorvisclen::{Refused, Reply, NONE};
 
 use crate::lent::{bytes, numbers, Hex, Lent, Outcome};
-use crate::tally::Tally;
+use crate::tally::{Names, Tally};
 
 /// What a call has to leave: numbers at the front of `out`, and bytes in `to` from a place on.
 pub struct Left<'a, const N: usize> {
@@ -20,9 +20,6 @@ pub struct Left<'a, const N: usize> {
 
 /// What it has to leave, or the number of a refusal that changes nothing.
 pub type Answer<'a, const N: usize> = Result<Left<'a, N>, u8>;
-
-/// What a call counts for; and each of its numbers, where it is done.
-pub type Names = (&'static str, &'static [&'static str]);
 
 impl<'a, const N: usize> Left<'a, N> {
     /// Numbers, and bytes from a place on.

@@ -10,6 +10,7 @@ mod timed;
 use gorvisclen::{COMMAND_NUMBERS, CRATE_READING, OWNED_NUMBERS, STANDARD_READING};
 
 use self::operations::{data, extend, own, parse, Asked, Piece, Room, ROOMS, SHORT_ROOMS};
+use self::parsed::written;
 pub use self::parsed::{by_rust, of_owned};
 pub use self::recorded::{commands, record};
 use self::standard::CASES;
@@ -99,12 +100,6 @@ fn every_extension(tally: &mut Tally, inputs: &mut Inputs, apdu: &[u8]) {
             extend(len, apdu).compare(tally, room.len, out_len);
         }
     }
-}
-
-/// A command with a field Lc of so many bytes: none, one or three.
-fn written(header: &[u8], lc: usize, data: &[u8], le: &[u8]) -> Vec<u8> {
-    let [.., high, low] = data.len().to_be_bytes();
-    [header, &[0, high, low][3 - lc..], data, le].concat()
 }
 
 /// A command of any header with `n` bytes of data and fields Lc and Le that can go with them. Le is zero at times.

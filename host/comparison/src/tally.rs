@@ -6,12 +6,14 @@ use std::sync::atomic::{AtomicU64, Ordering};
 
 use gorvisclen::{Refused, Reply};
 
-use crate::call::Names;
 use crate::lent::Outcome;
 
 /// The program stops at this many mismatches, in all threads together.
 const MOST: u64 = 20;
 static MISMATCHES: AtomicU64 = AtomicU64::new(0);
+
+/// What a call counts for; and each of its numbers, where it is done.
+pub type Names = (&'static str, &'static [&'static str]);
 
 /// What stands in the name of an operation that the Rust does not have, and what it is held to instead.
 const HELD_TO: [(&str, &str); 4] = [

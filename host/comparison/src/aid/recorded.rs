@@ -3,7 +3,7 @@
 
 use original::aid::Aid;
 
-use super::{of_aid, refusal, Case};
+use super::operations::{of_aid, refusal, Case};
 use crate::inputs::Inputs;
 use crate::loops::pairs;
 use crate::record::{three, File, Recorded, Text};

@@ -3,7 +3,7 @@
 
 use original::aid::Aid;
 
-use super::{make, matches, of_part, part, part_of, Case, PIV};
+use super::operations::{make, matches, of_part, part, part_of, Case, PIV};
 use crate::call::Call;
 use crate::timing::{apart, told, Lines, Size, NO_LIMIT};
 

@@ -5,9 +5,9 @@ use original::command::{Command, CommandView};
 
 use super::parsed::{by_rust, of_owned, refusal, Parsed};
 use super::standard::{by_table, NO_CASE, STANDARD_DATA, STANDARD_OWNED};
-use crate::call::{call, Answer, Call, Given, Left, Names};
+use crate::call::{call, Answer, Call, Given, Left};
 use crate::lent::{bytes, Hex};
-use crate::tally::Tally;
+use crate::tally::{Names, Tally};
 
 /// What each number of a command is.
 const NUMBERS: [&str; COMMAND_NUMBERS] = [

@@ -52,3 +52,9 @@ pub fn of_owned<const S: usize>(command: &Command<S>) -> [u64; OWNED_NUMBERS] {
         command.extended.into(),
     ]
 }
+
+/// A command with a field Lc of so many bytes: none, one or three.
+pub fn written(header: &[u8], lc: usize, data: &[u8], le: &[u8]) -> Vec<u8> {
+    let [.., high, low] = data.len().to_be_bytes();
+    [header, &[0, high, low][3 - lc..], data, le].concat()
+}

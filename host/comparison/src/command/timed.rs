@@ -10,8 +10,7 @@ use gorvisclen::{CRATE_READING, OWNED_NUMBERS};
 use original::command::{Command, CommandView};
 
 use super::operations::{data, own, parse, Asked};
-use super::parsed::{of_owned, refusal};
-use super::written;
+use super::parsed::{of_owned, refusal, written};
 use crate::call::Call;
 use crate::timing::{apart, best_of, check, told, Lines, Size, HEADER, NO_LIMIT};
 

@@ -2,7 +2,7 @@
 
 use gorvisclen::CRATE_READING;
 
-use crate::call;
+use crate::tally;
 
 /// The names of an operation: where the Rust reads, where it says `None`, and in the standard reading.
 pub struct Names {
@@ -50,7 +50,7 @@ pub const ABOVE_VALUE: &str =
 
 impl Names {
     /// The operation that an answer counts for, and those that its numbers do.
-    pub fn of(&self, reading: u8, accepted: bool) -> call::Names {
+    pub fn of(&self, reading: u8, accepted: bool) -> tally::Names {
         match (reading, accepted) {
             (CRATE_READING, true) => (self.some, self.numbers),
             (CRATE_READING, false) => (self.none, &[]),
