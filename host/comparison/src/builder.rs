@@ -13,7 +13,7 @@ use std::hint::black_box;
 
 use gorvisclen::{EXPECTED_MAX, EXTENDED_FORCED, EXTENDED_SUPPORTED};
 
-pub use self::asked::{bytes_of, expected, Asked};
+pub use self::asked::{bytes_of, expected, Asked, Builder};
 use self::fields::{
     some_expected, some_header, some_mode, EXPECTED, HEADERS, LONG, MODES, REFUSED, SHORT, TOO_LONG,
 };

@@ -23,14 +23,14 @@ pub type Answer<'a, const N: usize> = Result<Left<'a, N>, u8>;
 
 impl<'a, const N: usize> Left<'a, N> {
     /// Numbers, and bytes from a place on.
-    #[inline]
+    #[inline(always)]
     pub fn written(numbers: [u64; N], at: usize, bytes: impl Into<Cow<'a, [u8]>>) -> Self {
         let (bytes, refused) = (bytes.into(), None);
         Left { numbers, at, bytes, refused }
     }
 
     /// Leaves it, in what is long enough.
-    #[inline]
+    #[inline(always)]
     pub fn write(&self, to: &mut [u8], out: &mut [u64]) -> Reply {
         let end = self.at.checked_add(self.bytes.len()).ok_or(Refused(16))?;
         let part = to.get_mut(self.at..end).ok_or(Refused(16))?;
@@ -43,7 +43,7 @@ impl<'a, const N: usize> Left<'a, N> {
 
 /// Numbers alone.
 impl<const N: usize> From<[u64; N]> for Left<'_, N> {
-    #[inline]
+    #[inline(always)]
     fn from(numbers: [u64; N]) -> Self {
         Left::written(numbers, 0, &[][..])
     }
@@ -51,7 +51,7 @@ impl<const N: usize> From<[u64; N]> for Left<'_, N> {
 
 /// A part that is copied to the front, and its length; no part is no bytes, and the number `NONE`.
 impl<'a> From<Option<Cow<'a, [u8]>>> for Left<'a, 1> {
-    #[inline]
+    #[inline(always)]
     fn from(part: Option<Cow<'a, [u8]>>) -> Self {
         let len = part.as_ref().map_or(NONE, |part| part.len() as u64);
         Left::written([len], 0, part.unwrap_or_default())
@@ -59,7 +59,7 @@ impl<'a> From<Option<Cow<'a, [u8]>>> for Left<'a, 1> {
 }
 
 /// Leaves an answer. Of two refusals the smaller number wins, but 19 comes before 16.
-#[inline]
+#[inline(always)]
 pub fn leave<const N: usize>(answer: &Answer<N>, to: &mut [u8], out: &mut [u64]) -> Reply {
     match answer {
         Ok(left) => left.write(to, out),

@@ -44,10 +44,10 @@ pub fn told(reply: Reply) -> u8 {
     reply.map_or_else(|Refused(number)| number, |()| 0)
 }
 
-/// A call that is not laid into the loop.
-#[inline(never)]
-pub fn apart<T>(call: impl FnOnce() -> T) -> T {
-    call()
+/// What a call of ours replies.
+#[inline(always)]
+pub fn ours<const N: usize>(call: &impl Call<N>, to: &mut [u8], out: &mut [u64]) -> u8 {
+    told(call.ours(to, out))
 }
 
 #[inline(never)]
@@ -63,12 +63,12 @@ fn laid_in<const N: usize>(call: &impl Call<N>, to: &mut [u8], out: &mut [u64]) 
 /// The nanoseconds that a call takes in one round over the samples. What is lent is not cleared between the calls.
 #[inline(never)]
 fn round<S, T>(size: Size, of: &[S], call: impl Fn(&S, &mut [u8], &mut [u64]) -> T) -> f64 {
-    let (mut to, mut out) = (vec![0; size.to], vec![0; size.out]);
+    let mut lent = (vec![0; size.to], vec![0; size.out]);
     let times = (CALLS / (1 + size.bytes / 300)).div_ceil(of.len());
     let start = Instant::now();
     for _ in 0..times {
         for sample in of {
-            let (to, out) = (black_box(&mut to[..]), black_box(&mut out[..]));
+            let (to, out) = black_box(&mut lent);
             let answer = call(black_box(sample), to, out);
             black_box(&answer);
         }
@@ -120,7 +120,7 @@ impl Lines {
     pub fn calls<const N: usize>(&mut self, name: &str, of: &[impl Call<N>], size: Size) {
         let size = checked(name, of, size);
         let rust = || round(size, of, |call, to, out| by_rust(call, to, out));
-        let ours = || round(size, of, |call, to, out| told(call.ours(to, out)));
+        let ours = || round(size, of, ours);
         self.time(name, NO_LIMIT, rust, ours);
     }
 
@@ -134,7 +134,7 @@ impl Lines {
     ) {
         let size = checked(name, of, size);
         let rust = || round(size, of, |call, to, out| laid_in(call, to, out));
-        let ours = || round(size, of, |call, to, out| told(call.ours(to, out)));
+        let ours = || round(size, of, ours);
         self.time(name, most, rust, ours);
     }
 

@@ -5,7 +5,7 @@ use original::aid::Aid;
 
 use super::operations::{make, matches, of_part, part, part_of, Case, PIV};
 use crate::call::Call;
-use crate::timing::{apart, told, Lines, Size, NO_LIMIT};
+use crate::timing::{told, Lines, Size, NO_LIMIT};
 
 const OWN: &[u8] = &[0xF0; 16];
 
@@ -21,15 +21,22 @@ const SAMPLES: [(&str, &[u8], usize); 7] = [
 ];
 
 /// Copies a part as it is seen in the Rust's AID.
-fn copy(case: &Case, part: u8, to: &mut [u8], out: &mut [u64]) -> u8 {
+#[inline(never)]
+fn copy((case, part): &(Case, u8), to: &mut [u8], out: &mut [u64]) -> u8 {
     let aid = match case.made() {
         Ok(aid) => aid,
         Err(number) => return number,
     };
-    let part = part_of(&aid, part);
+    let part = part_of(&aid, *part);
     let bytes = part.unwrap_or(&[]);
     to[..bytes.len()].copy_from_slice(bytes);
     out[0] = of_part(part);
+    0
+}
+
+#[inline(never)]
+fn made_matches((aid, asked): &(Aid, &[u8]), _: &mut [u8], out: &mut [u64]) -> u8 {
+    out[0] = aid.matches(asked).into();
     0
 }
 
@@ -50,10 +57,7 @@ pub fn time(lines: &mut Lines) {
         ("aid matches, all of it, made before", NO_LIMIT),
         size,
         (&[(case.made().unwrap(), PIV)], &[matches(case, PIV)]),
-        |(aid, asked): &(Aid, &[u8]), _, out| {
-            out[0] = apart(|| aid.matches(asked)).into();
-            0
-        },
+        made_matches,
         |matches, to, out| told(matches.ours(to, out)),
     );
     for (number, words) in [(2, "RID"), (3, "PIX")] {
@@ -61,7 +65,7 @@ pub fn time(lines: &mut Lines) {
             (&format!("aid {words}, copied"), NO_LIMIT),
             size,
             (&[(case, number)], &[part(case, number)]),
-            |(case, number), to, out| apart(|| copy(case, *number, to, out)),
+            copy,
             |part, to, out| told(part.ours(to, out)),
         );
     }

@@ -2,12 +2,12 @@
 //! save where one is written: the Rust's is then made beforehand; a call of ours makes it too. It writes to the front of a buffer.
 
 use gorvisclen::{EXTENDED_FORCED, EXTENDED_SUPPORTED};
+use opened::command::CommandView;
 
 use super::asked::{bytes_of, Asked, Builder};
 use super::operations::{equals, force, length, write};
-use crate::call::Call;
-use crate::loops::{pairs, triples};
-use crate::timing::{apart, told, Lines, Size, HEADER};
+use crate::loops::triples;
+use crate::timing::{ours, Lines, Size, HEADER, NO_LIMIT};
 
 /// The most that ours may take of the Rust's time. Above 256 data bytes the time is that of copying them: the compiler does not
 /// make a `memcpy` of the kit's copy, since it is not told that two references do not overlap.
@@ -34,6 +34,7 @@ const MODES: [(u8, &str); 2] = [(EXTENDED_SUPPORTED, "supported"), (EXTENDED_FOR
 /// The most bytes that a command takes.
 const LONGEST: usize = 4 + 3 + 65_535 + 2;
 
+#[inline(never)]
 fn write_built(builder: &Builder, buffer: &mut [u8], out: &mut [u64]) -> u8 {
     let len = buffer.len();
     let mut rest = buffer;
@@ -55,31 +56,65 @@ fn writing(lines: &mut Lines) {
             (&format!("write {of_mode}, {words}{with}"), most(n)),
             size,
             (&[asked.made().unwrap()], &[write(asked, 0)]),
-            |builder, to, out| apart(|| write_built(builder, to, out)),
-            |call, to, out| told(call.ours(to, out)),
+            write_built,
+            ours,
         );
     }
 }
 
+/// A number that the Rust's builder gives, which is made in the call.
+#[inline(always)]
+fn of_built(asked: &Asked, out: &mut [u64], number: impl Fn(Builder) -> Option<u64>) -> u8 {
+    let Ok(builder) = asked.made() else {
+        return 3;
+    };
+    let Some(number) = number(builder) else {
+        return 5;
+    };
+    out[0] = number;
+    0
+}
+
+#[inline(never)]
+fn len(asked: &Asked, _: &mut [u8], out: &mut [u64]) -> u8 {
+    of_built(asked, out, |builder| Some(builder.required_len() as u64))
+}
+
+#[inline(never)]
+fn forced_len(asked: &Asked, _: &mut [u8], out: &mut [u64]) -> u8 {
+    of_built(asked, out, |builder| Some(builder.force_extended().required_len() as u64))
+}
+
+#[inline(never)]
+fn equal((asked, apdu): &(Asked, &[u8]), _: &mut [u8], out: &mut [u64]) -> u8 {
+    of_built(asked, out, |builder: Builder| {
+        CommandView::try_from(*apdu).ok().map(|view| (builder == view).into())
+    })
+}
+
+const SIZE: Size = Size { to: 0, out: 1, bytes: 0 };
+
 fn equality(lines: &mut Lines, words: &str, data: &[u8], other: &[u8]) {
     let asked = |data| Asked::new(HEADER, 256, EXTENDED_SUPPORTED, data);
-    let apdu = bytes_of(&asked(other).made().unwrap());
-    let of = [equals(asked(data), &apdu)];
-    lines.calls(&format!("equal, {words}"), &of, Size::default());
+    let apdu = &bytes_of(&asked(other).made().unwrap())[..];
+    let name = format!("equal, {words}");
+    let both = (&[(asked(data), apdu)][..], &[equals(asked(data), apdu)][..]);
+    lines.sides((&name, NO_LIMIT), SIZE, both, equal, ours);
 }
 
 pub fn time(lines: &mut Lines) {
     writing(lines);
     let data = [0xAA; 4_096];
-    let size = Size::default();
-    for ((mode, of_mode), (n, words)) in
-        pairs(MODES, [(0, "no data"), (16, "16 bytes"), (256, "256 bytes")])
-    {
-        let of = [length(Asked::new(HEADER, 256, mode, &data[..n]))];
-        lines.calls(&format!("length {of_mode}, {words}, Le"), &of, size);
+    for (mode, of_mode) in MODES {
+        for (n, words) in [(0, "no data"), (16, "16 bytes"), (256, "256 bytes")] {
+            let name = format!("length {of_mode}, {words}, Le");
+            let asked = Asked::new(HEADER, 256, mode, &data[..n]);
+            lines.sides((&name, NO_LIMIT), SIZE, (&[asked], &[length(asked)]), len, ours);
+        }
     }
+    let name = "length once forced, 16 bytes, Le";
     let asked = Asked::new(HEADER, 256, EXTENDED_SUPPORTED, &data[..16]);
-    lines.calls("length once forced, 16 bytes, Le", &[force(asked)], size);
+    lines.sides((name, NO_LIMIT), SIZE, (&[asked], &[force(asked)]), forced_len, ours);
     for (n, words) in [(16, "16 bytes"), (255, "255 bytes"), (4_096, "4,096 bytes")] {
         equality(lines, words, &data[..n], &data[..n]);
     }

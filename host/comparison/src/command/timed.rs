@@ -7,12 +7,12 @@ use std::hint::black_box;
 use std::time::Instant;
 
 use gorvisclen::{CRATE_READING, OWNED_NUMBERS};
-use original::command::{Command, CommandView};
+use original::command::{Command, CommandView, FromSliceError};
 
 use super::operations::{data, own, parse, Asked};
 use super::parsed::{of_owned, refusal, written};
 use crate::call::Call;
-use crate::timing::{apart, best_of, check, told, Lines, Size, HEADER, NO_LIMIT};
+use crate::timing::{best_of, check, ours, told, Lines, Size, HEADER, NO_LIMIT};
 
 /// The most that ours may take of the Rust's time to parse a command.
 const MOST: f64 = 1.10;
@@ -60,6 +60,23 @@ fn apdu(n: usize) -> Vec<u8> {
     written(&HEADER, lc, &vec![0xAA; n], le)
 }
 
+#[inline(never)]
+fn copy_data(asked: &Asked, to: &mut [u8], out: &mut [u64]) -> u8 {
+    match CommandView::try_from(asked.apdu.0) {
+        Ok(view) => {
+            to[..view.data().len()].copy_from_slice(view.data());
+            out[0] = view.data().len() as u64;
+            0
+        }
+        Err(error) => refusal(error),
+    }
+}
+
+#[inline(never)]
+fn copy<const N: usize>(apdu: &[u8]) -> Result<Command<N>, FromSliceError> {
+    Command::try_from(apdu)
+}
+
 /// Times the copy and the data of a command with `N` data bytes.
 fn copies<const N: usize>(lines: &mut Lines, words: &str) {
     let apdu = apdu(N);
@@ -75,10 +92,11 @@ fn copies<const N: usize>(lines: &mut Lines, words: &str) {
         (&name, NO_LIMIT),
         size,
         &[(asked, own(asked))],
-        |(asked, _)| apart(|| Command::<N>::try_from(asked.apdu.0)),
+        |(asked, _)| copy::<N>(&asked.apdu),
         |(_, own), to, out| told(own.ours(to, out)),
     );
-    lines.calls(&format!("data handed back, {words}"), &[data(asked)], size);
+    let name = format!("data handed back, {words}");
+    lines.sides((&name, NO_LIMIT), size, (&[asked], &[data(asked)]), copy_data, ours);
 }
 
 /// A command that holds no data.
@@ -86,15 +104,18 @@ fn none_held<const N: usize>() -> Box<Command<N>> {
     Box::new(Command::try_from(&HEADER).unwrap())
 }
 
-fn extended_by_rust<const N: usize>(piece: &[u8], held: &mut Command<N>) -> f64 {
-    let extend = |piece, held: &mut Command<N>| match CommandView::try_from(piece) {
+#[inline(never)]
+fn extend<const N: usize>(piece: &[u8], held: &mut Command<N>) -> u8 {
+    match CommandView::try_from(piece) {
         Ok(view) => held.extend_from_command_view(view).map_or(18, |()| 0),
         Err(error) => refusal(error),
-    };
+    }
+}
+
+fn extended_by_rust<const N: usize>(piece: &[u8], held: &mut Command<N>) -> f64 {
     let start = Instant::now();
     for _ in 0..PIECES {
-        let (piece, held) = (black_box(piece), black_box(&mut *held));
-        black_box(apart(|| extend(piece, held)));
+        black_box(extend(black_box(piece), black_box(held)));
     }
     start.elapsed().as_nanos() as f64 / PIECES as f64
 }

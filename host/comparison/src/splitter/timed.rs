@@ -8,10 +8,10 @@ use opened::command::class::Class;
 use opened::command::CommandBuilder;
 
 use super::steps::step;
-use crate::builder::Asked;
+use crate::builder::{Asked, Builder};
 use crate::call::Call;
 use crate::loops::triples;
-use crate::timing::{apart, checked, told, Lines, Size, HEADER, NO_LIMIT};
+use crate::timing::{checked, told, Lines, Size, HEADER, NO_LIMIT};
 
 /// The most that ours may take of the Rust's time.
 const MOST: f64 = 1.10;
@@ -20,6 +20,12 @@ const MOST: f64 = 1.10;
 const LENGTHS: [(usize, &str); 3] =
     [(655, "655 bytes"), (6_553, "6,553 bytes"), (65_535, "65,535 bytes")];
 
+/// The Rust's two builders, if any.
+#[inline(never)]
+fn split<'a>(asked: &Asked<'a>) -> Option<Option<(Builder<'a>, Builder<'a>)>> {
+    Some(asked.made().ok()?.should_split(BUFFER_LEN))
+}
+
 fn one_step(lines: &mut Lines, name: &str, data: &[u8]) {
     let asked = Asked::new(HEADER, 256, EXTENDED_SUPPORTED, data);
     let size = checked(name, &[step(asked, BUFFER_LEN)], Size::default());
@@ -27,7 +33,7 @@ fn one_step(lines: &mut Lines, name: &str, data: &[u8]) {
         (name, NO_LIMIT),
         size,
         &[(asked, step(asked, BUFFER_LEN))],
-        |(asked, _)| apart(|| Some(asked.made().ok()?.should_split(BUFFER_LEN))),
+        |(asked, _)| split(asked),
         |(_, step), to, out| told(step.ours(to, out)),
     );
 }
@@ -40,6 +46,7 @@ struct Sample<'a> {
     available: usize,
 }
 
+#[inline(never)]
 fn by_rust(sample: &Sample, buffer: &mut [u8], out: &mut [u64]) -> u8 {
     let [class, instruction, p1, p2] = HEADER;
     let Ok(class) = Class::try_from(class) else {
@@ -61,6 +68,7 @@ fn by_rust(sample: &Sample, buffer: &mut [u8], out: &mut [u64]) -> u8 {
     0
 }
 
+#[inline(never)]
 fn by_ours(sample: &Sample, buffer: &mut [u8], out: &mut [u64]) -> Reply {
     let mut chain = Pieces::new_non_extended(HEADER, sample.data, sample.le, sample.available)?;
     out.fill(0);
@@ -89,8 +97,8 @@ pub fn time(lines: &mut Lines) {
             (&format!("cut for {available}, {words}{with}"), MOST),
             Size { to, out, bytes },
             (&[sample], &[sample]),
-            |sample, to, out| apart(|| by_rust(sample, to, out)),
-            |sample, to, out| apart(|| told(by_ours(sample, to, out))),
+            by_rust,
+            |sample, to, out| told(by_ours(sample, to, out)),
         );
     }
 }

@@ -12,7 +12,7 @@ use super::lookup::{find, tag, value, Lookup};
 use super::records::{bytes_of, length_forms};
 use super::writing::{put, Object};
 use crate::call::Call;
-use crate::timing::{apart, check, checked, told, Lines, Size, NO_LIMIT};
+use crate::timing::{check, checked, told, Lines, Size, NO_LIMIT};
 
 /// The most that ours may take of the Rust's time, for place and length.
 const MOST: f64 = 1.50;
@@ -29,7 +29,7 @@ fn front<const N: usize, T>(
     lines: &mut Lines,
     (name, of): (&str, impl Front<N>),
     samples: &[(&str, &[u8])],
-    by_rust: impl Fn(&[u8]) -> Option<T>,
+    by_rust: fn(&[u8]) -> Option<T>,
 ) {
     for &(words, bytes) in samples {
         let name = format!("{name}, {words}");
@@ -38,7 +38,7 @@ fn front<const N: usize, T>(
             (&name, NO_LIMIT),
             size,
             &[(bytes, of.of(CRATE_READING, bytes))],
-            |(bytes, _)| apart(|| by_rust(bytes)),
+            |(bytes, _)| by_rust(bytes),
             |(_, call), to, out| told(call.ours(to, out)),
         );
     }
@@ -79,6 +79,7 @@ fn fronts(lines: &mut Lines) {
     });
 }
 
+#[inline(never)]
 fn put_by_rust(object: &Object, to: &mut [u8], out: &mut [u64]) -> u8 {
     let len = to.len();
     let mut rest = to;
@@ -95,7 +96,7 @@ fn writing(lines: &mut Lines, words: &str, n: usize) {
         (&format!("put_data_object, {words}"), NO_LIMIT),
         Size { to, out, bytes },
         (&[object], &[put(object, 0)]),
-        |object, to, out| apart(|| put_by_rust(object, to, out)),
+        put_by_rust,
         |put, to, out| told(put.ours(to, out)),
     );
 }
@@ -123,6 +124,7 @@ fn place(sample: &Sample, _: &mut [u8], out: &mut [u64]) -> u8 {
     0
 }
 
+#[inline(never)]
 fn copy(sample: &Sample, to: &mut [u8], out: &mut [u64]) -> u8 {
     let Some(value) = value_of(sample) else {
         return 11;
@@ -154,7 +156,7 @@ fn copying(lines: &mut Lines, words: &str, n: usize) {
         (&format!("value copied, {words}"), NO_LIMIT),
         Size { to, out, bytes },
         (&[sample], &[value(sample.lookup)]),
-        |sample, to, out| apart(|| copy(sample, to, out)),
+        copy,
         |value, to, out| told(value.ours(to, out)),
     );
 }
