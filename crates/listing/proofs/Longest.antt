@@ -157,13 +157,14 @@ section-few x s b l h =
       i,
     ))
 
--- every text fits in 780,000 bytes; that of a well-formed input is at most 13 times as long as the input
+-- what a well-formed input is, in numbers
 pub formed-is : (s : List ℕ) → formed s ≡ true → (length s ≤ 60000) × (sectionSize s + sectionSize (drop (sectionSize s) s) ≡ length s)
 unfolding formed
 formed-is s e =
     let p = both (leb (length s) 60000) (eqb (sectionSize s + sectionSize (drop (sectionSize s) s)) (length s)) e in
     (leb-true (length s) 60000 (p .0), eqb-true (sectionSize s + sectionSize (drop (sectionSize s) s)) (length s) (p .1))
 
+-- every text fits in 780,000 bytes; that of a well-formed input is at most 13 times as long as the input
 module _ (s : List ℕ) (b : Bytes s) where
   both-few : formed s ≡ true → length (sectionText Commands (itemsAt s) ++ sectionText Records (itemsAt (drop (sectionSize s) s))) ≤ 13 * length s
   both-few e =

@@ -17,10 +17,12 @@ use Rattle.command.specs.Body.{orMost, byte, pair, shortBody, longBody, extende
 use Rattle.command.specs.Command.{parse}
 use Rattle.command.specs.declared.CommandView.{CommandView}
 use Rattle.command.specs.declared.body.ParsedLengths.{ParsedLengths}
-use Rattle.tlv.specs.Tag.{sizeBy, thirdBy, threeBytes, longTag, tagOf}
-use Rattle.tlv.specs.Len.{lenTo82}
+use Rattle.tlv.specs.Tag.{tagOf}
+use Rattle.tlv.specs.Len.{lenOf}
 use Rattle.tlv.specs.Object.{objectOf}
 use Rattle.tlv.specs.declared.Reading.the-variants as tlv-reading
+use Rattle.tlv.proofs.Tags.{by-tag}
+use Rattle.tlv.proofs.Lengths.{by-length}
 
 -- the expected length of a command
 most : (m n : ℕ) → n ≤ m → orMost m n ≤ m
@@ -112,29 +114,16 @@ parse-small s =
     (λ c. small-then (bodyOf class-reading.Crate (drop 4 s)) _ (body-small (drop 4 s)) (λ b. tt)))
 
 tag-small : (s : List ℕ) → Small (tagOf tlv-reading.Crate s)
-unfolding tagOf longTag threeBytes
-tag-small s =
-    small-cond (ltb (length s) 1) _ _ (omega arith)
-    (small-cond (eqb (getD s 0 0 % 32) 31) _ _
-    (small-cond (ltb (length s) 2) _ _ (omega arith)
-    (small-cond (eqb (sizeBy tlv-reading.Crate (getD s 1 0)) 0) _ _ (omega arith)
-    (small-cond (eqb (sizeBy tlv-reading.Crate (getD s 1 0)) 2) _ _ tt
-    (small-cond (ltb (length s) 3) _ _ (omega arith) (small-cond (thirdBy tlv-reading.Crate (getD s 2 0)) _ _ tt (omega arith))))))
-    tt)
+tag-small s = by-tag tlv-reading.Crate s Small (λ _. omega arith) (λ _. omega arith) (λ _ _. tt) (λ _ _ _. tt) (λ _ _ _ _ _. tt)
 
-len-small : (s : List ℕ) → Small (lenTo82 s)
-unfolding lenTo82
-len-small s =
-    small-cond (ltb (length s) 1) _ _ (omega arith)
-    (small-cond (leb (getD s 0 0) 0x7F) _ _ tt
-    (small-cond (eqb (getD s 0 0) 0x81) _ _ (small-cond (ltb (length s) 2) _ _ (omega arith) tt)
-    (small-cond (eqb (getD s 0 0) 0x82) _ _ (small-cond (ltb (length s) 3) _ _ (omega arith) tt) (omega arith))))
+len-small : (s : List ℕ) → Small (lenOf tlv-reading.Crate s)
+len-small s = by-length s tlv-reading.Crate Small (omega arith) (λ _ _. tt) (λ _ _. tt) (λ _ _. tt)
 
 object-small : (s : List ℕ) → Small (objectOf tlv-reading.Crate s)
 unfolding objectOf
 object-small s =
     small-then (tagOf tlv-reading.Crate s) _ (tag-small s)
-    (λ t. small-then (lenTo82 (drop (t .size) s)) _ (len-small (drop (t .size) s))
+    (λ t. small-then (lenOf tlv-reading.Crate (drop (t .size) s)) _ (len-small (drop (t .size) s))
     (λ l. small-cond (leb (l .number) (length s - (t .size + l .size))) _ _ tt (omega arith)))
 
 pub command-no : (s : List ℕ) (k : ℕ) → parse class-reading.Crate s ≡ no k → k < 256

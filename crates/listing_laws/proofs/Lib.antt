@@ -1,3 +1,4 @@
 pub mod Decimal
 pub mod Encoded
 pub mod Tags
+pub mod Lines

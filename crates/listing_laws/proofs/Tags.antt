@@ -16,6 +16,7 @@ use Rattle.tlv.specs.Len.{lenOf}
 use Rattle.tlv.specs.Object.{Object, sizeOf, objectIn, objectOf}
 use Rattle.tlv.specs.Walk.{walk}
 use Rattle.tlv.specs.declared.Reading.the-variants.{Crate}
+use Rattle.tlv.proofs.Tags.{by-tag}
 use Rattle.tlv.proofs.Walk.{walk-no, walk-met, by-objects}
 use Rattle.listing.specs.Text.{hex, piece, mark, filled, line, objectLine}
 use Rattle.listing.proofs.Walking.{line-one, line-two, line-three}
@@ -89,23 +90,13 @@ front-three [] h = absurd (omega arith)
 front-three (a ∷ s) h = ap (λ (l : List ℕ). a ∷ l) (front-two s (omega arith))
 
 tag-own : (s : List ℕ) → Bytes s → All (λ t. Own s (t .number) (t .size)) (tagOf Crate s)
-unfolding tagOf longTag threeBytes
 tag-own s b =
-    let P : Tag → Type 0 = λ t. Own s (t .number) (t .size) in
     let a = getD s 0 0 in
-    all-cond P (ltb (length s) 1) _ _ (λ _. tt)
-    (λ h. all-cond P (eqb (a % 32) 31) _ _
-    (λ q. all-cond P (ltb (length s) 2) _ _ (λ _. tt)
-    (λ g. all-cond P (eqb (sizeBy Crate (getD s 1 0)) 0) _ _ (λ _. tt)
-    (λ _. all-cond P (eqb (sizeBy Crate (getD s 1 0)) 2) _ _
-    (λ _ k j m. two-bytes k j m a (getD s 1 0) (b 0) (b 1) (eqb-true (a % 32) 31 q)
-    ∙ ap (λ (u : List ℕ). around k j (hexes u) m) (sym (front-two s (ltb-false (length s) 2 g))))
-    (λ _. all-cond P (ltb (length s) 3) _ _ (λ _. tt)
-    (λ f. all-cond P (thirdBy Crate (getD s 2 0)) _ _
-    (λ _ k j m. three-bytes k j m a (getD s 1 0) (getD s 2 0) (b 0) (b 1) (b 2) (eqb-true (a % 32) 31 q)
-    ∙ ap (λ (u : List ℕ). around k j (hexes u) m) (sym (front-three s (ltb-false (length s) 3 f))))
-    (λ _. tt))))))
-    (λ _ k j m. one-byte k j m a (b 0) ∙ ap (λ (u : List ℕ). around k j (hexes u) m) (sym (front-one s (ltb-false (length s) 1 h)))))
+    by-tag Crate s (All (λ t. Own s (t .number) (t .size))) (λ _. tt) (λ _. tt)
+    (λ h _ k j m. one-byte k j m a (b 0) ∙ ap (λ (u : List ℕ). around k j (hexes u) m) (sym (front-one s h)))
+    (λ q h _ k j m. two-bytes k j m a (getD s 1 0) (b 0) (b 1) q ∙ ap (λ (u : List ℕ). around k j (hexes u) m) (sym (front-two s h)))
+    (λ q h _ _ _ k j m. three-bytes k j m a (getD s 1 0) (getD s 2 0) (b 0) (b 1) (b 2) q
+    ∙ ap (λ (u : List ℕ). around k j (hexes u) m) (sym (front-three s h)))
 
 -- so is the tag of an object at the front
 record Front (s : List ℕ) (o : Object) : Type 0 where

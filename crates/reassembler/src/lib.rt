@@ -135,7 +135,7 @@ impl Reassembler {
         }
     }
 
-    // The command of a piece, with the data that are held before it.
+    // The command of a piece, with the data that are held before it: of the rest only the flag counts, since an extension replaces it.
     fn command(self, view: CommandView) -> Command
         ensures { λ r. ⌜ r ≡ commandIn self view (heldBy self) ⌝ }
     {

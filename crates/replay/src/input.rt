@@ -1,4 +1,4 @@
-// The file of answers, read by place. A place past its end reads as 0, so that a file cut short or changed is read to an end too.
+// The file, read by place. A place past its end reads as 0, so that a file cut short or changed is read to an end too.
 ghost use Prim.Native.Nat.{_<_};
 
 // A byte.
@@ -7,12 +7,6 @@ pub(crate) fn byte(s: &[u8], at: usize) -> u8 {
         return s[at];
     }
     0
-}
-
-fn wide(b: u8) -> usize
-    ensures { λ r. ⌜ r < 256 ⌝ }
-{
-    b as usize
 }
 
 // A place so many bytes behind another, at most a million: no file is so long.
@@ -29,14 +23,14 @@ pub(crate) fn behind(at: usize, n: usize) -> usize {
 fn shifted(high: usize, low: u8) -> usize
     ensures { λ r. ⌜ r < 0x100000000 ⌝ }
 {
-    high % 0x1000000 * 256 + wide(low)
+    high % 0x1000000 * 256 + low as usize
 }
 
-// Numbers of one, two and three bytes, big-endian.
+// Numbers of one to three bytes.
 pub(crate) fn one(s: &[u8], at: usize) -> usize
-    ensures { λ r. ⌜ r < 256 ⌝ }
+    ensures { λ r. ⌜ r < 0x100000000 ⌝ }
 {
-    wide(byte(s, at))
+    shifted(0, byte(s, at))
 }
 
 pub(crate) fn two(s: &[u8], at: usize) -> usize
@@ -51,15 +45,17 @@ pub(crate) fn three(s: &[u8], at: usize) -> usize
     shifted(two(s, at), byte(s, behind(at, 2)))
 }
 
-// So many bytes from a place on; those that there are, where there are fewer.
-pub(crate) fn part<'a>(s: &'a [u8], at: usize, n: usize) -> &'a [u8] {
-    let len = s.len();
-    if len < at {
-        return &s[..0];
+// The numbers of three bytes from a place on, at most 16; says how many there are.
+pub(crate) fn numbers(s: &[u8], from: usize, to: &mut [u32; 16]) -> usize {
+    let mut at = from;
+    let mut i = 0;
+    while i < 16 {
+        if s.len() <= at {
+            return i;
+        }
+        to[i] = three(s, at) as u32;
+        at = behind(at, 3);
+        i += 1;
     }
-    if len - at < n {
-        return &s[at..];
-    }
-    let end = at + n;
-    &s[at..end]
+    16
 }

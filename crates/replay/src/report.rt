@@ -28,7 +28,7 @@ fn bytes(shown: &[u8]) {
 
 // An answer that differs.
 pub(crate) fn difference(n: usize, expected: &[u8], found: &[u8]) {
-    number(b"WRONG: answer ", n, b" of the file: expected ");
+    number(b"WRONG: answer ", n, b": expected ");
     bytes(expected);
     io::write_all(1, b", found ");
     bytes(found);

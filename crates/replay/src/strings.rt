@@ -1,8 +1,9 @@
 // The strings of an answer's input, laid out in an array of the program's own.
 use crate::input;
+use byte_slices::part;
 
-fn put(to: &mut [u8; 65700], at: usize, b: u8) -> usize {
-    if at < 65700 {
+fn put(to: &mut [u8], at: usize, b: u8) -> usize {
+    if at < to.len() {
         to[at] = b;
         return at + 1;
     }
@@ -10,7 +11,7 @@ fn put(to: &mut [u8; 65700], at: usize, b: u8) -> usize {
 }
 
 // Bytes behind others.
-fn copied(s: &[u8], to: &mut [u8; 65700], from: usize) -> usize {
+fn copied(s: &[u8], to: &mut [u8], from: usize) -> usize {
     let mut at = from;
     let mut i = 0;
     while i < s.len() {
@@ -25,7 +26,7 @@ fn stepped(b: u8, step: u8) -> u8 {
 }
 
 // So many bytes behind others, each a step above the one before.
-fn filled(to: &mut [u8; 65700], from: usize, n: usize, first: u8, step: u8) -> usize {
+fn filled(to: &mut [u8], from: usize, n: usize, first: u8, step: u8) -> usize {
     let mut at = from;
     let mut b = first;
     let mut i = 0;
@@ -39,9 +40,9 @@ fn filled(to: &mut [u8; 65700], from: usize, n: usize, first: u8, step: u8) -> u
 
 // The string with a filling that stands behind a place: the filling's length, its first byte, its step, the lengths of what stands
 // before and behind it, and these.
-fn with_filling(s: &[u8], to: &mut [u8; 65700]) -> usize {
+fn with_filling(s: &[u8], to: &mut [u8]) -> usize {
     let front = input::one(s, 5);
-    let len = copied(input::part(s, 7, front), to, 0);
+    let len = copied(part(s, 7, front), to, 0);
     let len = filled(
         to,
         len,
@@ -49,17 +50,17 @@ fn with_filling(s: &[u8], to: &mut [u8; 65700]) -> usize {
         input::byte(s, 3),
         input::byte(s, 4),
     );
-    copied(input::part(s, 7 + front, input::one(s, 6)), to, len)
+    copied(part(s, 7 + front, input::one(s, 6)), to, len)
 }
 
 // Lays out the string at a place, and says how long it is.
-pub(crate) fn laid(s: &[u8], at: usize, to: &mut [u8; 65700]) -> usize {
+pub(crate) fn laid(s: &[u8], at: usize, to: &mut [u8]) -> usize {
     let n = input::one(s, at);
     let start = input::behind(at, 1);
     if n < 255 {
-        return copied(input::part(s, start, n), to, 0);
+        return copied(part(s, start, n), to, 0);
     }
-    with_filling(input::part(s, start, 65535), to)
+    with_filling(part(s, start, 65535), to)
 }
 
 // The place behind the string at a place.

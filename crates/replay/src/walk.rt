@@ -1,157 +1,190 @@
-// The answers of the file, each replayed on the proved library.
-use crate::aids;
-use crate::builders;
-use crate::classes;
-use crate::commands;
-use crate::cuts;
+// The sections of the file, and their answers, each replayed on the proved library.
+ghost use Prim.Native.Nat.{_≤_};
+use crate::answer;
+use crate::calls;
 use crate::input;
-use crate::records;
+use crate::input::behind;
 use crate::report;
 use crate::strings;
+use byte_slices::part;
 
-// The library's answer to an operation, and its length.
+// How many answers there are, how many of them differ, and the place behind them.
+struct Tally {
+    answers: usize,
+    differing: usize,
+    end: usize,
+}
+
+// The library's answer to a call, with so many numbers told; says how many bytes it takes.
 fn answered(
     operation: u8,
     first: &[u8],
     second: &[u8],
-    numbers: &[u8],
-    room: &mut [u8; 65700],
-    out: &mut [u8; 200],
+    n: &[u32; 16],
+    count: usize,
+    told: usize,
+    to: &mut [u8],
+    found: &mut [u8],
 ) -> usize {
-    match operation {
-        1 => classes::from_byte(numbers, out),
-        2 => classes::from_cla(numbers, out),
-        3 => aids::try_new(first, out),
-        4 => aids::try_new_truncatable(first, numbers, out),
-        5 => aids::matches(first, second, numbers, out),
-        6 => records::tag(first, out),
-        7 => records::len(first, out),
-        8 => records::object(first, out),
-        9 => records::lookup(first, numbers, out),
-        10 => records::write(first, numbers, room, out),
-        11 => commands::view(first, out),
-        12 => commands::owned(first, numbers, room, out),
-        13 => commands::extended(first, second, numbers, room, out),
-        14 => builders::build(first, numbers, room, out),
-        15 => builders::force(first, numbers, room, out),
-        16 => builders::equal(first, second, numbers, out),
-        17 => cuts::step(first, numbers, out),
-        18 => cuts::chain(first, numbers, out),
-        _ => 0,
-    }
+    let mut out = [0u64; 16];
+    answer::lend_bytes(to);
+    answer::lend_numbers(&mut out);
+    let reply = calls::call(operation, first, second, n, count, to, &mut out);
+    answer::make(found, reply, told, to, &out)
 }
 
-// The library's answer to an input of the file.
-fn replayed(
+// Where the last so many bytes of a space begin.
+fn last(space: usize, n: u32) -> usize
+    ensures { λ r. ⌜ r ≤ space ⌝ }
+{
+    let len = n as usize;
+    if space < len {
+        return 0;
+    }
+    space - len
+}
+
+// The same with as much lent as the first number says.
+fn answered_in(
     operation: u8,
-    asked: &[u8],
-    texts: &mut [u8; 65700],
-    others: &mut [u8; 65700],
-    room: &mut [u8; 65700],
-    out: &mut [u8; 200],
+    first: &[u8],
+    second: &[u8],
+    n: &[u32; 16],
+    count: usize,
+    told: usize,
+    space: &mut [u8],
+    found: &mut [u8],
 ) -> usize {
-    let first = strings::laid(asked, 0, texts);
-    let at = strings::end(asked, 0);
-    let second = strings::laid(asked, at, others);
-    let at = strings::end(asked, at);
+    let at = last(space.len(), n[0]);
     answered(
         operation,
-        input::part(texts, 0, first),
-        input::part(others, 0, second),
-        input::part(asked, at, 65535),
-        room,
-        out,
+        first,
+        second,
+        n,
+        count,
+        told,
+        &mut space[at..],
+        found,
     )
 }
 
-// What the file has of an answer behind its operation: the input, then what the Rust answered, each behind its length.
-fn asked<'a>(file: &'a [u8], at: usize) -> &'a [u8] {
-    input::part(
-        file,
-        input::behind(at, 3),
-        input::two(file, input::behind(at, 1)),
+// The same to an input of the file.
+fn replayed(operation: u8, asked: &[u8], told: usize, found: &mut [u8]) -> usize {
+    let mut first = [0u8; 70000];
+    let mut second = [0u8; 70000];
+    let mut space = [0u8; 70000];
+    let mut n = [0u32; 16];
+    let first_len = strings::laid(asked, 0, &mut first);
+    let at = strings::end(asked, 0);
+    let second_len = strings::laid(asked, at, &mut second);
+    let count = input::numbers(asked, strings::end(asked, at), &mut n);
+    answered_in(
+        operation,
+        part(&first, 0, first_len),
+        part(&second, 0, second_len),
+        &n,
+        count,
+        told,
+        &mut space,
+        found,
     )
 }
 
-fn expected_at(file: &[u8], at: usize) -> usize {
-    input::behind(at, 3 + input::two(file, input::behind(at, 1)))
-}
-
-fn expected<'a>(file: &'a [u8], at: usize) -> &'a [u8] {
-    let place = expected_at(file, at);
-    input::part(file, input::behind(place, 1), input::one(file, place))
-}
-
-// The place of the answer behind the one at a place.
-fn next(file: &[u8], at: usize) -> usize {
-    let place = expected_at(file, at);
-    input::behind(place, 1 + input::one(file, place))
-}
-
-// One more of an operation, and of all at place 0; says how many of the operation there are now.
-fn one_more(counts: &mut [usize; 19], operation: usize) -> usize {
-    if operation < 1 {
+// How many numbers are told in an answer of so many bytes.
+fn told(len: usize) -> usize {
+    if len < 5 {
         return 0;
     }
-    if 18 < operation {
-        return 0;
-    }
-    let n = input::behind(counts[operation], 1);
-    counts[operation] = n;
-    counts[0] = input::behind(counts[0], 1);
-    n
+    (len - 5) / 3
 }
 
-// Counts the answer of this number in the file, and whether what the library answers differs: so many bytes of `out`. The first of an
-// operation that differs is shown.
-fn counted(
-    answers: &mut [usize; 19],
-    differing: &mut [usize; 19],
-    operation: usize,
-    number: usize,
-    expected: &[u8],
-    out: &[u8; 200],
-    len: usize,
-) {
-    let found = input::part(out, 0, len);
-    one_more(answers, operation);
-    if check::same(expected, found) {
-        return;
+// Whether the library's answer to an input is what is expected. If it is not, and all before it were, it is shown.
+fn holds(operation: u8, asked: &[u8], expected: &[u8], before: usize, number: usize) -> bool {
+    let mut found = [0u8; 80];
+    let len = replayed(operation, asked, told(expected.len()), &mut found);
+    if byte_slices::same(expected, part(&found, 0, len)) {
+        return true;
     }
-    if one_more(differing, operation) == 1 {
-        report::difference(number, expected, found);
+    if before == 0 {
+        report::difference(number, expected, part(&found, 0, len));
+    }
+    false
+}
+
+// Replays the answer at the end of those that were replayed: its input, then what is expected, each behind its length.
+fn with_next(tally: Tally, operation: u8, file: &[u8]) -> Tally {
+    let asked_len = input::two(file, tally.end);
+    let asked = behind(tally.end, 2);
+    let place = behind(asked, asked_len);
+    let expected_len = input::one(file, place);
+    let expected = behind(place, 1);
+    let held = holds(
+        operation,
+        part(file, asked, asked_len),
+        part(file, expected, expected_len),
+        tally.differing,
+        behind(tally.answers, 1),
+    );
+    Tally {
+        answers: behind(tally.answers, 1),
+        differing: if held {
+            tally.differing
+        } else {
+            behind(tally.differing, 1)
+        },
+        end: behind(expected, expected_len),
     }
 }
 
-// Replays the answers, counts those of each operation and those that differ, and says where the last ends.
-pub(crate) fn replay(file: &[u8], answers: &mut [usize; 19], differing: &mut [usize; 19]) -> usize {
-    let mut texts = [0u8; 65700];
-    let mut others = [0u8; 65700];
-    let mut room = [0u8; 65700];
-    let mut out = [0u8; 200];
-    let count = input::two(file, 0);
-    let mut at = 2;
+// The answers of a section, so many from a place on.
+fn answers(operation: u8, file: &[u8], place: usize, count: usize) -> Tally {
+    let mut tally = Tally {
+        answers: 0,
+        differing: 0,
+        end: place,
+    };
     let mut turn = 0;
     while turn < count {
-        let len = replayed(
-            input::byte(file, at),
-            asked(file, at),
-            &mut texts,
-            &mut others,
-            &mut room,
-            &mut out,
-        );
-        counted(
-            answers,
-            differing,
-            input::one(file, at),
-            turn + 1,
-            expected(file, at),
-            &out,
-            len,
-        );
-        at = next(file, at);
+        tally = with_next(tally, operation, file);
         turn += 1;
     }
-    at
+    tally
+}
+
+// Replays the section at the end of those before it, prints its line, and adds it to them.
+fn with_section(before: Tally, file: &[u8]) -> Tally {
+    let name_len = input::one(file, behind(before.end, 1));
+    let name = behind(before.end, 2);
+    let place = behind(name, name_len);
+    let operation = input::byte(file, before.end);
+    let found = answers(operation, file, behind(place, 2), input::two(file, place));
+    io::write_all(1, part(file, name, name_len));
+    report::tally(found.answers, found.differing);
+    Tally {
+        answers: behind(before.answers, found.answers),
+        differing: behind(before.differing, found.differing),
+        end: found.end,
+    }
+}
+
+// Replays the file, and says whether it is whole.
+pub(crate) fn replay(file: &[u8]) {
+    let mut all = Tally {
+        answers: 0,
+        differing: 0,
+        end: 1,
+    };
+    let sections = input::one(file, 0);
+    let mut turn = 0;
+    while turn < sections {
+        all = with_section(all, file);
+        turn += 1;
+    }
+    io::write_all(1, b"total");
+    report::tally(all.answers, all.differing);
+    if all.end == file.len() {
+        io::write_all(1, b"the file is whole\n");
+        return;
+    }
+    io::write_all(1, b"WRONG: the file is not whole\n");
 }

@@ -7,7 +7,7 @@ use original::command::class::{
 
 use crate::call::{call, Call};
 use crate::inputs::Inputs;
-use crate::record::{File, Recorded, Text};
+use crate::record::{File, Handed, Operation};
 use crate::tally::Tally;
 use crate::timing::{Lines, Size};
 
@@ -197,23 +197,14 @@ pub fn compare(tally: &mut Tally, inputs: &mut Inputs) {
     }
 }
 
-/// The Rust's numbers in a byte each, its class once chained, and whether it is each of the constants.
-fn recorded(class: Class, answer: Recorded) -> Recorded {
-    let numbers = of_class(class).map(|n| n.min(255) as u8);
-    let places = (0..CLASS_NUMBERS).filter(|place| !STANDARD.contains(place));
-    let numbers: Vec<u8> = places.map(|place| numbers[place]).collect();
-    let constants = [ZERO_CLA, NO_SM_CLA, SM_CLA].map(|constant| (class == constant).into());
-    answer.bytes(&numbers).byte(class.as_chained().into_inner()).bytes(&constants)
-}
-
 pub fn record(file: &mut File, _: &mut Inputs) {
-    for byte in 0..=u8::MAX {
-        let none = &Text::none();
-        file.add(1, none, &[byte], Recorded::of(made(byte), recorded));
-        let range = Range::from_cla(byte).map_err(|_| 3);
-        let of_range = |range, answer: Recorded| answer.byte(of_range(range) as u8);
-        file.add(2, none, &[byte], Recorded::of(range, of_range));
+    for cla in 0..=u8::MAX {
+        let handed = || Handed::new(&[], [cla.into()]);
+        file.add(Operation::Class, handed(), make(cla));
+        file.add(Operation::ClassAsChained, handed(), chained(cla));
+        file.add(Operation::Range, handed(), range(cla));
     }
+    file.add(Operation::ClassConstants, Handed::new(&[], []), constants());
 }
 
 /// The Rust gives the 8 numbers that it has; ours gives these and the 3 of the standard reading.

@@ -1,213 +1,222 @@
-//! The file of recorded answers, whose form crates/replay/src/main.rt describes: its strings, and an answer. It is made of the Rust's
-//! answers alone, from a fixed seed.
+//! The file of recorded answers, whose form crates/replay/src/main.rt describes. Each is what a call has to leave by the Rust. It is made
+//! from a fixed seed.
 
+use std::array;
+use std::collections::BTreeMap;
+use std::ops::Range;
+
+use crate::call::{leave, Call};
 use crate::inputs::Inputs;
 
 /// What the inputs start from that are not listed.
 pub const SEED: u64 = 7816;
 
-/// So many operations there are, and so many answers at least of each and of each refusal.
-const OPERATIONS: usize = 18;
+/// So many answers at least there are of each operation but the constants, and of each refusal.
 const LEAST: usize = 24;
 
 /// The refusals that the Rust's answers come to: document 01, "Numbers of refusal".
 const REFUSALS: [u8; 17] = [1, 2, 3, 4, 5, 6, 7, 8, 9, 10, 11, 12, 13, 14, 15, 18, 19];
 
+/// The exported functions that the Rust has too, by their numbers in the file.
+#[derive(Clone, Copy, Debug, PartialEq, Eq, PartialOrd, Ord)]
+pub enum Operation {
+    Class = 1,
+    ClassAsChained,
+    Range,
+    ClassConstants,
+    AidWhole,
+    Aid,
+    AidMatches,
+    AidPart,
+    TakeTag,
+    TakeLen,
+    TakeDataObject,
+    GetDataObject,
+    Value,
+    PutDataObject,
+    Command,
+    CommandData,
+    CommandOwned,
+    CommandExtend,
+    RequiredLen,
+    ForceExtended,
+    BuilderEq,
+    SerializeInto,
+    ShouldSplit,
+    NewNonExtended,
+    WriteNext,
+}
+
+impl Operation {
+    /// Its name, that of the exported function without what all of them begin with.
+    fn name(self) -> String {
+        let mut name = String::new();
+        for letter in format!("{self:?}").chars() {
+            if letter.is_uppercase() && !name.is_empty() {
+                name.push('_');
+            }
+            name.push(letter.to_ascii_lowercase());
+        }
+        name
+    }
+}
+
 #[derive(Default)]
-pub struct File {
+struct Section {
     answers: Vec<u8>,
     count: u16,
-    operations: [usize; OPERATIONS + 1],
+}
+
+#[derive(Default)]
+pub struct File {
+    sections: BTreeMap<Operation, Section>,
     refusals: [usize; 32],
 }
 
-impl File {
-    /// Adds an answer to an input of one string and some numbers.
-    pub fn add(&mut self, operation: u8, text: &Text, numbers: &[u8], answer: Recorded) {
-        self.add_both(operation, [text, &Text::none()], numbers, answer);
+/// What a call is handed: its strings, how many bytes it may write to, and its own numbers.
+pub struct Handed<'a> {
+    pub strings: [&'a [u8]; 2],
+    pub to_len: usize,
+    pub numbers: Vec<usize>,
+}
+
+impl<'a> Handed<'a> {
+    pub fn new(first: &'a [u8], numbers: impl Into<Vec<usize>>) -> Self {
+        let (strings, numbers) = ([first, &[]], numbers.into());
+        Handed { strings, to_len: 0, numbers }
     }
 
-    /// Adds an answer to an input of two strings and some numbers.
-    pub fn add_both(&mut self, operation: u8, texts: [&Text; 2], numbers: &[u8], answer: Recorded) {
-        let [first, second] = texts.map(|text| &text.written[..]);
-        let input = [first, second, numbers].concat();
-        self.answers.push(operation);
-        self.answers.extend(u16::try_from(input.len()).unwrap().to_be_bytes());
-        self.answers.extend(input);
-        self.answers.push(answer.bytes.len().try_into().unwrap());
-        self.answers.extend(answer.bytes);
-        self.count = self.count.checked_add(1).unwrap();
-        self.operations[usize::from(operation)] += 1;
-        self.refusals[usize::from(answer.refusal)] += 1;
+    pub fn beside(mut self, second: &'a [u8]) -> Self {
+        self.strings[1] = second;
+        self
+    }
+
+    pub fn to(mut self, to_len: usize) -> Self {
+        self.to_len = to_len;
+        self
+    }
+
+    fn written(&self) -> Vec<u8> {
+        let mut input: Vec<u8> = self.strings.into_iter().flat_map(string).collect();
+        for &n in [self.to_len].iter().chain(&self.numbers) {
+            input.extend(three(n));
+        }
+        input
+    }
+}
+
+impl File {
+    /// Adds a call, and what it has to leave in memory that is lent for it.
+    pub fn add<const N: usize>(
+        &mut self,
+        operation: Operation,
+        handed: Handed,
+        call: impl Call<N>,
+    ) {
+        let mut to = lent(handed.to_len);
+        let mut out: [u64; 16] = array::from_fn(|place| 700 + place as u64);
+        let answer = call.theirs(to.len());
+        let reply = leave(&answer, &mut to, &mut out).map_or_else(|refused| refused.0, |()| 0);
+        let told = if answer.is_ok() && reply != 16 { N } else { 0 };
+        let sum = to.iter().map(|&byte| byte.into()).chain(out).fold(0, mixed);
+        let mut bytes = vec![reply];
+        bytes.extend(out[..told].iter().flat_map(|&n| three(n as usize)));
+        bytes.extend(u32::try_from(sum).unwrap().to_be_bytes());
+        self.refusals[usize::from(reply)] += 1;
+        let input = handed.written();
+        let section = self.sections.entry(operation).or_default();
+        section.count += 1;
+        section.answers.extend(u16::try_from(input.len()).unwrap().to_be_bytes());
+        section.answers.extend(input);
+        section.answers.push(bytes.len().try_into().unwrap());
+        section.answers.extend(bytes);
     }
 
     /// The bytes of the file. Each operation and each refusal has to have its share.
     pub fn bytes(&self) -> Vec<u8> {
-        for operation in 1..=OPERATIONS {
-            let count = self.operations[operation];
-            assert!(count >= LEAST, "operation {operation}: {count} answers");
+        let mut bytes = vec![self.sections.len().try_into().unwrap()];
+        for (&operation, section) in &self.sections {
+            let (name, count) = (operation.name(), section.count);
+            println!("{name}: {count} answers");
+            let enough = usize::from(count) >= LEAST || operation == Operation::ClassConstants;
+            assert!(enough, "{name}: {count} answers");
+            bytes.extend([operation as u8, name.len() as u8]);
+            bytes.extend(name.as_bytes());
+            bytes.extend(count.to_be_bytes());
+            bytes.extend(&section.answers);
         }
         for refusal in REFUSALS {
             let count = self.refusals[usize::from(refusal)];
+            println!("refused {refusal}: {count} answers");
             assert!(count >= LEAST, "refusal {refusal}: {count} answers");
         }
-        println!("{} answers", self.count);
-        println!("of operations 1 to {OPERATIONS}: {:?}", &self.operations[1..]);
-        println!("accepted: {}", self.refusals[0]);
-        println!(
-            "with refusals {REFUSALS:?}: {:?}",
-            REFUSALS.map(|k| self.refusals[usize::from(k)])
-        );
-        [&self.count.to_be_bytes()[..], &self.answers].concat()
+        bytes
     }
 }
 
-/// A string of an input, and how it is written in the file.
-#[derive(Clone)]
-pub struct Text {
-    pub bytes: Vec<u8>,
-    written: Vec<u8>,
-    parts: Option<(Vec<u8>, Filling, Vec<u8>)>,
+/// So many bytes as they are lent.
+pub fn lent(len: usize) -> Vec<u8> {
+    (0..len).map(|place| (place % 251) as u8).collect()
 }
 
-/// A filling: so many bytes, the first of them, and the step from each to the next.
-#[derive(Clone, Copy)]
-pub struct Filling {
-    pub len: usize,
-    pub first: u8,
-    pub step: u8,
-}
-
-impl Text {
-    pub fn none() -> Text {
-        Text::of(&[])
-    }
-
-    /// Under 255 bytes.
-    pub fn of(bytes: &[u8]) -> Text {
-        assert!(bytes.len() < 255);
-        Text { bytes: bytes.to_vec(), written: [&[bytes.len() as u8], bytes].concat(), parts: None }
-    }
-
-    /// A filling between two strings of under 256 bytes.
-    pub fn filled(before: &[u8], filling: Filling, behind: &[u8]) -> Text {
-        let Filling { len, first, step } = filling;
-        let mut byte = first;
-        let mut bytes = before.to_vec();
-        for _ in 0..len {
-            bytes.push(byte);
-            byte = byte.wrapping_add(step);
-        }
-        bytes.extend(behind);
-        let lens = [before, behind].map(|part| u8::try_from(part.len()).unwrap());
-        let mut written = vec![255];
-        written.extend(three(len));
-        written.extend([first, step]);
-        written.extend(lens);
-        written.extend([before, behind].concat());
-        Text { bytes, written, parts: Some((before.to_vec(), filling, behind.to_vec())) }
-    }
-
-    /// This string between two others.
-    pub fn within(&self, front: &[u8], back: &[u8]) -> Text {
-        match &self.parts {
-            None => Text::of(&[front, &self.bytes, back].concat()),
-            Some((before, filling, behind)) => {
-                Text::filled(&[front, before].concat(), *filling, &[behind, back].concat())
-            }
-        }
-    }
-
-    /// So many bytes: up to 20 of them any, more by a filling.
-    pub fn some(inputs: &mut Inputs, len: usize) -> Text {
-        if len <= 20 {
-            return Text::of(&inputs.bytes(len));
-        }
-        let (first, step) = (inputs.byte(), inputs.byte() | 1);
-        Text::filled(&[], Filling { len, first, step }, &[])
-    }
+/// The checksum of what came before, and of a number.
+fn mixed(sum: u64, n: u64) -> u64 {
+    const PRIME: u64 = 0xFFFF_FFFB;
+    (sum % PRIME * 65_537 + n % (1 << 32) + 1) % PRIME
 }
 
 /// A number in three bytes.
-pub fn three(n: usize) -> [u8; 3] {
+fn three(n: usize) -> [u8; 3] {
     let [0, bytes @ ..] = u32::try_from(n).unwrap().to_be_bytes() else {
         panic!("{n} takes more than three bytes");
     };
     bytes
 }
 
-/// The checksum of what came before, and of these bytes in their order.
-pub fn checksum(before: u64, bytes: &[u8]) -> u64 {
-    const PRIME: u64 = 0xFFFF_FFFB;
-    let mix = |sum: u64, byte: &u8| (sum % PRIME * 65_537 + u64::from(*byte) + 1) % PRIME;
-    bytes.iter().fold(before, mix)
+/// A string as the file has it: its bytes, or by its longest filling, whichever is shorter.
+fn string(bytes: &[u8]) -> Vec<u8> {
+    let filling = longest_filling(bytes);
+    let rest = bytes.len() - filling.len();
+    if bytes.len() < 255 && bytes.len() <= rest + 7 {
+        return [&[bytes.len() as u8], bytes].concat();
+    }
+    let (before, behind) = (&bytes[..filling.start], &bytes[filling.end..]);
+    let lens = [before, behind].map(|part| u8::try_from(part.len()).unwrap());
+    let first = bytes[filling.start];
+    let step = bytes[filling.start + 1].wrapping_sub(first);
+    [&[255], &three(filling.len())[..], &[first, step], &lens, before, behind].concat()
 }
 
-/// An answer, and which refusal it has in it, 0 for none.
-#[derive(Default)]
-pub struct Recorded {
-    bytes: Vec<u8>,
-    refusal: u8,
+/// The longest part in which each byte is a step above the one before.
+fn longest_filling(bytes: &[u8]) -> Range<usize> {
+    let step_at = |place: usize| bytes[place + 1].wrapping_sub(bytes[place]);
+    let (mut longest, mut start) = (0..0, 0);
+    for end in 1..=bytes.len() {
+        if end == bytes.len() || step_at(end - 1) != step_at(start) {
+            if end - start > longest.len() {
+                longest = start..end;
+            }
+            start = end - 1;
+        }
+    }
+    longest
 }
 
-impl Recorded {
-    pub fn refused(number: u8) -> Recorded {
-        Recorded::default().refusal(number)
-    }
-
-    pub fn accepted() -> Recorded {
-        Recorded::default().byte(0)
-    }
-
-    /// A refusal, or what is told of what was accepted.
-    pub fn of<T>(answer: Result<T, u8>, told: impl FnOnce(T, Recorded) -> Recorded) -> Recorded {
-        match answer {
-            Err(number) => Recorded::refused(number),
-            Ok(answer) => told(answer, Recorded::accepted()),
+/// So many bytes: up to 12 of them any, more by a filling.
+pub fn some_bytes(inputs: &mut Inputs, len: usize) -> Vec<u8> {
+    match len {
+        0..=12 => inputs.bytes(len),
+        _ => {
+            let (first, step) = (inputs.byte(), inputs.byte() | 1);
+            filled(len, first, step)
         }
     }
+}
 
-    /// A refusal behind what was accepted.
-    pub fn refusal(mut self, number: u8) -> Recorded {
-        self.refusal = number;
-        self.byte(number)
-    }
-
-    pub fn byte(mut self, byte: u8) -> Recorded {
-        self.bytes.push(byte);
-        self
-    }
-
-    pub fn flag(self, flag: bool) -> Recorded {
-        self.byte(flag.into())
-    }
-
-    pub fn bytes(mut self, bytes: &[u8]) -> Recorded {
-        self.bytes.extend(bytes);
-        self
-    }
-
-    pub fn number(self, n: usize) -> Recorded {
-        self.bytes(&three(n))
-    }
-
-    pub fn numbers(self, numbers: &[u64]) -> Recorded {
-        let add = |answer: Recorded, n: &u64| answer.number(*n as usize);
-        numbers.iter().fold(self, add)
-    }
-
-    pub fn checksum(self, sum: u64) -> Recorded {
-        self.bytes(&u32::try_from(sum).unwrap().to_be_bytes())
-    }
-
-    /// A string: its length, and its bytes up to 32 of them, else their checksum.
-    pub fn string(self, bytes: &[u8]) -> Recorded {
-        let answer = self.number(bytes.len());
-        match bytes.len() {
-            ..=32 => answer.bytes(bytes),
-            _ => answer.checksum(checksum(0, bytes)),
-        }
-    }
+/// So many bytes, each a step above the one before.
+pub fn filled(len: usize, first: u8, step: u8) -> Vec<u8> {
+    let next = |byte: &u8| Some(byte.wrapping_add(step));
+    std::iter::successors(Some(first), next).take(len).collect()
 }
 
 /// A header: any, or one of a class at a boundary.
@@ -217,19 +226,4 @@ pub fn some_header(inputs: &mut Inputs) -> [u8; 4] {
         _ => inputs.one_of(&[0x00, 0x10, 0x0C, 0x44, 0x80, 0x84, 0xEF, 0xFE, 0xFF]),
     };
     [class, inputs.byte(), inputs.byte(), inputs.byte()]
-}
-
-/// A copy with a byte changed, a byte taken out, a byte put in, or cut.
-pub fn damaged(inputs: &mut Inputs, bytes: &[u8]) -> Vec<u8> {
-    let mut copy = bytes.to_vec();
-    let at = inputs.below(copy.len() + 1);
-    match inputs.below(4) {
-        0 if at < copy.len() => copy[at] ^= 1 + inputs.below(255) as u8,
-        1 if at < copy.len() => {
-            copy.remove(at);
-        }
-        2 => copy.truncate(at),
-        _ => copy.insert(at, inputs.byte()),
-    }
-    copy
 }

@@ -1,35 +1,19 @@
 //! AIDs recorded: names of every category and every length to a few too many, truncated lengths around theirs, names that match or
 //! nearly.
 
-use original::aid::Aid;
-
-use super::operations::{of_aid, refusal, Case};
+use super::operations::{make, make_whole, matches, part, Case};
 use crate::inputs::Inputs;
 use crate::loops::pairs;
-use crate::record::{three, File, Recorded, Text};
-
-/// A part: its length and bytes, or the number of a part that is not there.
-fn part(answer: Recorded, part: Option<&[u8]>) -> Recorded {
-    match part {
-        None => answer.number(17),
-        Some(bytes) => answer.number(bytes.len()).string(bytes),
-    }
-}
-
-/// Its category and the tests for that, and its parts.
-fn told(aid: Aid, answer: Recorded) -> Recorded {
-    let [_, _, tests @ .., _, _] = of_aid(&aid).map(|n| n as u8);
-    let parts = [Some(aid.as_bytes()), Some(aid.truncated()), aid.rid(), aid.pix()];
-    parts.into_iter().fold(answer.bytes(&tests), part)
-}
+use crate::record::{File, Handed, Operation};
 
 fn names(file: &mut File, inputs: &mut Inputs, name: &[u8]) {
-    let text = &Text::of(name);
-    let aid = Aid::try_new(name).map_err(refusal);
-    file.add(3, text, &[], Recorded::of(aid, told));
+    file.add(Operation::AidWhole, Handed::new(name, []), make_whole(name));
     for truncated in [0, name.len() + 1, inputs.below(name.len() + 2)] {
-        let answer = Recorded::of(Case::of(name, truncated).made(), told);
-        file.add(4, text, &three(truncated), answer);
+        let case = Case::of(name, truncated);
+        file.add(Operation::Aid, Handed::new(name, [truncated]), make(case));
+        let number = inputs.below(4) as u8;
+        let handed = Handed::new(name, [truncated, number.into()]).to(18);
+        file.add(Operation::AidPart, handed, part(case, number));
     }
 }
 
@@ -50,10 +34,8 @@ fn matching(file: &mut File, inputs: &mut Inputs, name: &[u8], truncated: usize)
         others.push(changed);
     }
     for other in others {
-        let matches = |aid: Aid, answer: Recorded| answer.flag(aid.matches(&other));
-        let answer = Recorded::of(Case::of(name, truncated).made(), matches);
-        let texts = [&Text::of(name), &Text::of(&other)];
-        file.add_both(5, texts, &three(truncated), answer);
+        let handed = Handed::new(name, [truncated]).beside(&other);
+        file.add(Operation::AidMatches, handed, matches(Case::of(name, truncated), &other));
     }
 }
 

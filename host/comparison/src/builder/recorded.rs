@@ -1,14 +1,12 @@
 //! Builders recorded: data and expected lengths around each boundary in the three modes; extended lengths forced; comparisons with
 //! commands that are equal or nearly.
 
-use opened::command::{fields, CommandView};
-
-use super::asked::{bytes_of, expected, Asked, Builder};
-use crate::command::{by_rust, commands};
+use super::asked::Asked;
+use super::operations::{equals, force, length, write};
+use crate::command::commands;
 use crate::inputs::Inputs;
 use crate::loops::triples;
-use crate::panics::unless_it_panics;
-use crate::record::{some_header, three, File, Recorded, Text};
+use crate::record::{some_bytes, some_header, File, Handed, Operation};
 
 pub const LENGTHS: [usize; 17] =
     [0, 1, 2, 3, 5, 20, 21, 254, 255, 256, 257, 600, 65_524, 65_534, 65_535, 65_536, 65_540];
@@ -23,52 +21,40 @@ pub struct Fields {
 }
 
 impl Fields {
-    pub fn numbers(&self) -> Vec<u8> {
-        [&self.header[..], &three(self.le), &[self.mode]].concat()
+    /// Its numbers, and these behind them.
+    pub fn numbers(&self, more: &[usize]) -> Vec<usize> {
+        let [class, instruction, p1, p2] = self.header.map(usize::from);
+        [&[class, instruction, p1, p2, self.le, self.mode.into()], more].concat()
     }
 
-    pub fn of<'a>(&self, data: &'a Text) -> Asked<'a> {
-        Asked::new(self.header, self.le as u32, self.mode, &data.bytes)
+    pub fn of<'a>(&self, data: &'a [u8]) -> Asked<'a> {
+        Asked::new(self.header, self.le as u32, self.mode, data)
     }
 }
 
-/// The fields of a builder, its length and its bytes.
-fn written(builder: Builder, answer: Recorded) -> Recorded {
-    let (header, le, mode) = fields(&builder);
-    answer
-        .bytes(&header)
-        .number(expected(le) as usize)
-        .byte(mode)
-        .number(builder.required_len())
-        .string(&bytes_of(&builder))
+fn add_build(file: &mut File, inputs: &mut Inputs, asked: Fields, data: &[u8]) {
+    let at = inputs.below(3);
+    if at == 0 {
+        let handed = Handed::new(data, asked.numbers(&[]));
+        file.add(Operation::RequiredLen, handed, length(asked.of(data)));
+    }
+    let handed = Handed::new(data, asked.numbers(&[at])).to(data.len() + 14);
+    file.add(Operation::SerializeInto, handed, write(asked.of(data), at));
 }
 
-fn add_build(file: &mut File, asked: Fields, data: &Text) {
-    let answer = Recorded::of(asked.of(data).made(), written);
-    file.add(14, data, &asked.numbers(), answer);
+fn add_force(file: &mut File, asked: Fields, data: &[u8]) {
+    let handed = Handed::new(data, asked.numbers(&[]));
+    file.add(Operation::ForceExtended, handed, force(asked.of(data)));
 }
 
-fn add_force(file: &mut File, asked: Fields, data: &Text) {
-    let made = asked.of(data).made();
-    let forced = made.and_then(|made| unless_it_panics(|| made.force_extended()).ok_or(15));
-    file.add(15, data, &asked.numbers(), Recorded::of(forced, written));
-}
-
-fn add_equal(file: &mut File, asked: Fields, data: &Text, apdu: &Text) {
-    let equal = |builder: Builder, answer: Recorded| match by_rust(&apdu.bytes) {
-        Err(number) => answer.refusal(number),
-        Ok(_) => {
-            let view = CommandView::try_from(&apdu.bytes[..]).unwrap();
-            answer.byte(0).flag(builder == view)
-        }
-    };
-    let answer = Recorded::of(asked.of(data).made(), equal);
-    file.add_both(16, [data, apdu], &asked.numbers(), answer);
+fn add_equal(file: &mut File, asked: Fields, data: &[u8], apdu: &[u8]) {
+    let handed = Handed::new(data, asked.numbers(&[])).beside(apdu);
+    file.add(Operation::BuilderEq, handed, equals(asked.of(data), apdu));
 }
 
 /// A command with these data, Lc of one or three bytes, and an expected length of as many; extended also where there are no data.
-fn apdu(header: [u8; 4], data: &Text, extended: bool, le: Option<u16>) -> Text {
-    let n = data.bytes.len() as u16;
+fn apdu(header: [u8; 4], data: &[u8], extended: bool, le: Option<u16>) -> Vec<u8> {
+    let n = data.len() as u16;
     let mut front = header.to_vec();
     let mut back = le.map_or(Vec::new(), |le| le.to_be_bytes().to_vec());
     match (extended, n) {
@@ -80,20 +66,20 @@ fn apdu(header: [u8; 4], data: &Text, extended: bool, le: Option<u16>) -> Text {
     if !extended && le.is_some() {
         back.remove(0);
     }
-    data.within(&front, &back)
+    [&front, data, &back].concat()
 }
 
 /// A builder beside the command that it would be, beside its neighbours, and beside one with other data.
-fn comparisons(file: &mut File, inputs: &mut Inputs, asked: Fields, data: &Text) {
-    let extended = asked.mode == 2 || data.bytes.len() > 255 || asked.le > 256;
+fn comparisons(file: &mut File, inputs: &mut Inputs, asked: Fields, data: &[u8]) {
+    let extended = asked.mode == 2 || data.len() > 255 || asked.le > 256;
     let le = Some(asked.le as u16).filter(|_| asked.le != 0);
     let same = apdu(asked.header, data, extended, le);
     let mut other = asked.header;
     other[inputs.below(4)] ^= 1 << inputs.below(8);
     let next = le.map(|le| le.wrapping_add(1));
-    let len = data.bytes.len();
-    let shorter = Text::some(inputs, len.max(1) - 1);
-    let changed = Text::some(inputs, len);
+    let len = data.len();
+    let shorter = some_bytes(inputs, len.max(1) - 1);
+    let changed = some_bytes(inputs, len);
     let others = [
         apdu(other, data, extended, le),
         apdu(asked.header, data, extended, next),
@@ -119,9 +105,9 @@ pub fn some_fields(inputs: &mut Inputs) -> Fields {
 
 /// A builder with data and an expected length at a boundary; some of them forced and compared.
 fn at_boundary(file: &mut File, inputs: &mut Inputs, (len, le, mode): (usize, usize, u8)) {
-    let data = Text::some(inputs, len);
+    let data = some_bytes(inputs, len);
     let asked = Fields { le, mode, ..some_fields(inputs) };
-    add_build(file, asked, &data);
+    add_build(file, inputs, asked, &data);
     let turn = len + le + usize::from(mode);
     if turn % 4 == 0 {
         add_force(file, asked, &data);
@@ -143,8 +129,8 @@ fn any(file: &mut File, inputs: &mut Inputs) {
         let asked = some_fields(inputs);
         let most = if inputs.below(8) == 0 { 65_536 } else { 600 };
         let len = inputs.below(most);
-        let data = Text::some(inputs, len);
-        add_build(file, asked, &data);
+        let data = some_bytes(inputs, len);
+        add_build(file, inputs, asked, &data);
         add_force(file, asked, &data);
     }
 }
@@ -152,7 +138,7 @@ fn any(file: &mut File, inputs: &mut Inputs) {
 /// Any builders beside commands of every case.
 fn beside_commands(file: &mut File, inputs: &mut Inputs) {
     for apdu in commands(inputs) {
-        let (asked, data) = (some_fields(inputs), Text::some(inputs, 3));
+        let (asked, data) = (some_fields(inputs), some_bytes(inputs, 3));
         add_equal(file, asked, &data, &apdu);
     }
 }

@@ -140,10 +140,21 @@ pub fn extend(len: usize, apdu: &[u8]) -> impl Call<OWNED_NUMBERS> + '_ {
     )
 }
 
+/// The same where these bytes are held, at most as many as the room has, which is one of the rooms.
+pub fn extend_held_by<'a>(front: &'a [u8], apdu: &'a [u8]) -> impl Call<OWNED_NUMBERS> + 'a {
+    call(
+        EXTENDED,
+        (Hex(front), Hex(apdu)),
+        |(front, apdu), to, out| gorvisclen::command_extend(front.len(), to, apdu, out),
+        |(front, apdu), to_len| (Room::with(to_len).extends)(front, apdu),
+    )
+}
+
 /// A room of a length that is a capacity of the Rust's `Command`, for what that type does.
 pub struct Room {
     pub len: usize,
     owned: fn(&[u8]) -> Answer<OWNED_NUMBERS>,
+    extends: fn(&[u8], &[u8]) -> Answer<'static, OWNED_NUMBERS>,
     pub extended: fn(&mut Tally, usize, &[Piece]),
 }
 
@@ -179,6 +190,10 @@ impl Room {
                 let data = command.data().to_vec();
                 Ok(Left::written(of_owned(&command), 0, data))
             },
+            extends: |front, apdu| {
+                let view = CommandView::try_from(apdu).map_err(refusal)?;
+                Ok(extend_held(&mut holding::<S>(front), view, apdu))
+            },
             extended: extended::<S>,
         }
     }
@@ -190,12 +205,17 @@ pub struct Piece<'a> {
     pub out_len: usize,
 }
 
+/// A command that holds these bytes, at most S.
+fn holding<const S: usize>(bytes: &[u8]) -> Command<S> {
+    let mut held = Command::try_from(&[0x00, 0xA4, 0x04, 0x00]).unwrap();
+    held.data_mut().extend_from_slice(bytes).unwrap();
+    held
+}
+
 /// Extends a command that holds `len` bytes, at most S, by one piece after the other.
 fn extended<const S: usize>(tally: &mut Tally, len: usize, pieces: &[Piece]) {
-    let mut held = Command::<S>::try_from(&[0x00, 0xA4, 0x04, 0x00]).unwrap();
     let mut room = bytes(S);
-    let front = &room.part()[..len];
-    held.data_mut().extend_from_slice(front).unwrap();
+    let mut held = holding::<S>(&room.part()[..len]);
     for &Piece { apdu, out_len } in pieces {
         let len = held.data().len();
         let answer = match CommandView::try_from(apdu).map_err(refusal) {

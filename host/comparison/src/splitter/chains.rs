@@ -32,7 +32,7 @@ pub struct Asked<'a> {
 impl Given for Asked<'_> {}
 
 /// A chain made.
-fn new(asked: Asked<'_>) -> impl Call<0> + '_ {
+pub fn new(asked: Asked<'_>) -> impl Call<0> + '_ {
     let name = match asked.data.len() {
         0..=65_535 if asked.chain.available < 10 => NEW_SMALL,
         0..=65_535 => NEW,
@@ -60,7 +60,7 @@ fn left<'a>(piece: Option<rust::Piece>, at: usize) -> Left<'a, PIECE_NUMBERS> {
 }
 
 /// The next piece of a chain, written from a place.
-fn next(asked: Asked<'_>, at: usize) -> impl Call<PIECE_NUMBERS> + '_ {
+pub fn next(asked: Asked<'_>, at: usize) -> impl Call<PIECE_NUMBERS> + '_ {
     let name = match asked.chain {
         Pieces { done: true, .. } => DONE,
         Pieces { available: 0..10, .. } => NEXT_SMALL,
@@ -92,7 +92,7 @@ impl<'a> Asked<'a> {
     }
 
     /// The chain of the Rust; 14 for a buffer under 10, behind its own refusals.
-    fn of_rust(&self) -> Result<rust::Chain<'a>, u8> {
+    pub fn of_rust(&self) -> Result<rust::Chain<'a>, u8> {
         let Pieces { header, le, available, .. } = self.chain;
         let made = rust::Chain::new(header, self.data.0, le, available)?;
         match available {

@@ -1,56 +1,16 @@
-//! Commands cut, recorded: single steps in every mode, and whole chains. A chain for a buffer under 10 is recorded where the Rust panics.
+//! Commands cut, recorded: single steps in every mode, and chains, of which the first piece, the last and what comes behind it.
 
-use opened::command::class::Class;
-use opened::command::CommandBuilder;
-
-use super::rust::step;
-use crate::builder::bytes_of;
+use super::chains::{new, next, Asked};
+use super::steps::step;
 use crate::builder::recorded::{some_fields, Fields, EXPECTED, LENGTHS};
 use crate::inputs::Inputs;
 use crate::loops::{pairs, triples};
-use crate::panics::unless_it_panics;
-use crate::record::{checksum, three, File, Recorded, Text};
+use crate::record::{some_bytes, File, Handed, Operation};
 
-/// Whether it is split; if so, the length of the first part's data, and the fields of both parts.
-fn add_step(file: &mut File, asked: &Fields, data: &Text, available: usize) {
-    let numbers = [&asked.numbers()[..], &three(available)].concat();
-    let [_, instruction, p1, p2] = asked.header;
-    let told = |[split, n, class, le, kept, kept_le]: [u64; 6], answer: Recorded| {
-        let fields = |answer: Recorded, (class, le): (u64, u64)| {
-            let header = [class as u8, instruction, p1, p2];
-            answer.bytes(&header).number(le as usize).byte(asked.mode)
-        };
-        match split {
-            0 => answer.byte(0),
-            _ => fields(fields(answer.byte(1).number(n as usize), (class, le)), (kept, kept_le)),
-        }
-    };
-    let answer = Recorded::of(step(&asked.of(data), available), told);
-    file.add(17, data, &numbers, answer);
-}
-
-type Pieces<'a> = Vec<CommandBuilder<&'a [u8]>>;
-
-/// The pieces; 3 where the Rust has no such class, 13 where it panics for the data, 14 where it panics as it cuts.
-fn cut<'a>(asked: &Fields, data: &'a [u8], available: usize) -> Result<Pieces<'a>, u8> {
-    let [class, instruction, p1, p2] = asked.header;
-    let class = Class::try_from(class).map_err(|_| 3)?;
-    let (instruction, le) = (instruction.into(), asked.le as u16);
-    let len = Some(available);
-    let new = || CommandBuilder::new_non_extended(class, instruction, p1, p2, data, le, len);
-    let chain = unless_it_panics(new).ok_or(13)?;
-    unless_it_panics(|| chain.collect()).ok_or(14)
-}
-
-/// How many the pieces are, how many bytes they take, and the checksum of each length and the bytes behind it.
-fn sums(pieces: Pieces, answer: Recorded) -> Recorded {
-    let (mut total, mut sum) = (0, 0);
-    for piece in &pieces {
-        let bytes = bytes_of(piece);
-        total += bytes.len();
-        sum = checksum(checksum(sum, &three(bytes.len())), &bytes);
-    }
-    answer.number(pieces.len()).number(total).checksum(sum)
+/// Whether it is split; if so, the numbers of both parts.
+fn add_step(file: &mut File, asked: &Fields, data: &[u8], available: usize) {
+    let handed = Handed::new(data, asked.numbers(&[available]));
+    file.add(Operation::ShouldSplit, handed, step(asked.of(data), available));
 }
 
 /// A buffer around a boundary.
@@ -63,21 +23,48 @@ fn some_buffer(inputs: &mut Inputs) -> usize {
     }
 }
 
-/// Nothing where the Rust cuts for a buffer under 10, which is ours to refuse.
-fn add_chain(file: &mut File, asked: &Fields, data: &Text, available: usize) {
-    let numbers = [&asked.numbers()[..], &three(available)].concat();
-    let pieces = cut(asked, &data.bytes, available);
-    if available >= 10 || pieces.is_err() {
-        file.add(18, data, &numbers, Recorded::of(pieces, sums));
+/// The numbers of a chain that is made.
+fn numbers_of(asked: &Asked) -> Vec<usize> {
+    let [class, instruction, p1, p2] = asked.chain.header.map(usize::from);
+    vec![class, instruction, p1, p2, asked.chain.le.into(), asked.chain.available]
+}
+
+/// The next piece of a chain.
+fn add_piece(file: &mut File, asked: Asked) {
+    let at = asked.chain.place % 3;
+    let rest = [asked.chain.place, asked.chain.done.into(), at];
+    let numbers = [&numbers_of(&asked)[..], &rest].concat();
+    let handed = Handed::new(&asked.data, numbers).to(265);
+    file.add(Operation::WriteNext, handed, next(asked, at));
+}
+
+/// A chain; its first piece, the last and what comes behind it.
+fn add_chain(file: &mut File, asked: &Fields, data: &[u8], available: usize) {
+    let mut asked = Asked::new(asked.header, data, asked.le as u16, available);
+    let handed = Handed::new(data, numbers_of(&asked));
+    file.add(Operation::NewNonExtended, handed, new(asked));
+    let mut states = vec![asked];
+    if let Ok(mut theirs) = asked.of_rust() {
+        while let Some((_, numbers)) = theirs.next() {
+            asked.chain = asked.chain.behind(numbers);
+            states.push(asked);
+        }
+    }
+    for (turn, &state) in states.iter().enumerate() {
+        if turn == 0 || turn + 2 >= states.len() {
+            add_piece(file, state);
+        }
     }
 }
 
 fn steps(file: &mut File, inputs: &mut Inputs) {
     for (len, le, mode) in triples(LENGTHS, EXPECTED, 0..3) {
-        let data = Text::some(inputs, len);
+        let data = some_bytes(inputs, len);
         let asked = Fields { le, mode, ..some_fields(inputs) };
         let available = some_buffer(inputs);
-        add_step(file, &asked, &data, available);
+        if (len + le) % 2 == 0 {
+            add_step(file, &asked, &data, available);
+        }
         if let Ok(builder) = asked.of(&data).made() {
             let available = (builder.required_len() + inputs.below(3)) - 1;
             add_step(file, &asked, &data, available);
@@ -85,7 +72,7 @@ fn steps(file: &mut File, inputs: &mut Inputs) {
     }
     for _ in 0..100 {
         let len = inputs.below(700);
-        let data = Text::some(inputs, len);
+        let data = some_bytes(inputs, len);
         let (asked, available) = (some_fields(inputs), 4 + inputs.below(700));
         add_step(file, &asked, &data, available);
     }
@@ -97,7 +84,7 @@ fn chains(file: &mut File, inputs: &mut Inputs) {
         Fields { le, mode, ..some_fields(inputs) }
     };
     for (len, le) in pairs(LENGTHS, [0, 1, 255, 256, 257, 65_535]) {
-        let data = Text::some(inputs, len);
+        let data = some_bytes(inputs, len);
         for available in [inputs.below(9), 9, 10, 261, some_buffer(inputs).max(10)] {
             if len < 1_000 || available > 200 || le == 1 {
                 let asked = short(inputs, le);
@@ -107,7 +94,7 @@ fn chains(file: &mut File, inputs: &mut Inputs) {
     }
     for _ in 0..150 {
         let len = inputs.below(2_000);
-        let data = Text::some(inputs, len);
+        let data = some_bytes(inputs, len);
         let (le, available) = (inputs.below(300), 10 + inputs.below(300));
         let asked = short(inputs, le);
         add_chain(file, &asked, &data, available);

@@ -1,18 +1,15 @@
 //! BER records recorded: tags, lengths and objects around each boundary; lookups in nested records, whole, damaged and cut, and in long
 //! ones; objects written.
 
-use std::ops::Range;
-
 use gorvisclen::CRATE_READING;
 
 use super::front::{Front, Len, Object, Tag};
-use super::lookup::Lookup;
+use super::lookup::{find, value, Lookup};
 use super::records::{bytes_of, length_forms};
 use super::writing::{self, put, three_bytes};
-use crate::call::{Call, Left};
 use crate::inputs::Inputs;
 use crate::loops::pairs;
-use crate::record::{damaged, three, File, Filling, Recorded, Text};
+use crate::record::{filled, some_bytes, File, Handed, Operation};
 
 /// Tags of one to three bytes; the last four by the crate's reading alone, or by none.
 const TAGS: [u32; 14] = [
@@ -20,23 +17,20 @@ const TAGS: [u32; 14] = [
     0x5F1D, 0x5F80,
 ];
 
-/// Adds what the front of a string is read as.
-fn add_front<const N: usize>(file: &mut File, operation: u8, of: impl Front<N>, text: &Text) {
-    let numbers = of.answer(CRATE_READING, &text.bytes);
-    let answer = Recorded::of(numbers, |numbers, answer| answer.numbers(&numbers));
-    file.add(operation, text, &[], answer);
-}
+const CRATE: usize = CRATE_READING as usize;
 
+/// Adds what the front of a string is read as.
 fn add_tag(file: &mut File, bytes: &[u8]) {
-    add_front(file, 6, Tag, &Text::of(bytes));
+    file.add(Operation::TakeTag, Handed::new(bytes, [CRATE]), Tag.of(CRATE_READING, bytes));
 }
 
 fn add_len(file: &mut File, bytes: &[u8]) {
-    add_front(file, 7, Len, &Text::of(bytes));
+    file.add(Operation::TakeLen, Handed::new(bytes, [CRATE]), Len.of(CRATE_READING, bytes));
 }
 
-fn add_object(file: &mut File, text: &Text) {
-    add_front(file, 8, Object, text);
+fn add_object(file: &mut File, bytes: &[u8]) {
+    let call = Object.of(CRATE_READING, bytes);
+    file.add(Operation::TakeDataObject, Handed::new(bytes, [CRATE]), call);
 }
 
 /// Every first byte; every second one; third ones around the boundaries; and what is cut off.
@@ -83,19 +77,19 @@ fn objects(file: &mut File, inputs: &mut Inputs) {
     for n in [0, 1, 2, 5, 127, 128, 255, 256, 300, 65_534, 65_535] {
         for (form, len) in pairs(forms(n), [n, n.saturating_sub(1), n + 1, n]) {
             let front = [bytes_of(inputs.one_of(&TAGS)), form.clone()].concat();
-            let text = Text::some(inputs, len).within(&front, &[]);
-            add_object(file, &text);
+            let value = some_bytes(inputs, len);
+            add_object(file, &[front, value].concat());
         }
     }
     for _ in 0..250 {
         let (bytes, _) = nested(inputs, 1);
-        let text = match inputs.below(3) {
+        let bytes = match inputs.below(3) {
             0 => bytes,
-            _ => damaged(inputs, &bytes),
+            _ => inputs.damaged(&bytes),
         };
-        add_object(file, &Text::of(&text));
+        add_object(file, &bytes);
     }
-    (0..8).for_each(|_| add_object(file, &Text::none()));
+    add_object(file, &[]);
 }
 
 type Path = Vec<u32>;
@@ -128,17 +122,15 @@ fn nested(inputs: &mut Inputs, depth: usize) -> (Vec<u8>, Vec<Path>) {
     (bytes, paths)
 }
 
-/// Adds what a path leads to: its place, its length, its bytes.
-fn add_lookup(file: &mut File, text: &Text, path: &[u32]) {
+/// Adds what a path leads to: its place and length, and its bytes.
+fn add_lookup(file: &mut File, record: &[u8], path: &[u32]) {
     assert!(path.len() <= 6);
-    let tags = path.iter().flat_map(|&tag| three_bytes(tag));
-    let numbers: Vec<u8> = [path.len() as u8].into_iter().chain(tags).collect();
-    let lookup = Lookup::of(CRATE_READING, &text.bytes, path);
-    let told = |part: Range<usize>, answer: Recorded| {
-        let answer = answer.number(part.start).number(part.len());
-        answer.string(&text.bytes[part])
-    };
-    file.add(9, text, &numbers, Recorded::of(lookup.found(), told));
+    let numbers: Vec<usize> =
+        [CRATE].into_iter().chain(path.iter().map(|&tag| tag as usize)).collect();
+    let lookup = Lookup::of(CRATE_READING, record, path);
+    file.add(Operation::GetDataObject, Handed::new(record, &numbers[..]), find(lookup));
+    let handed = Handed::new(record, numbers).to(lookup.len() + 3);
+    file.add(Operation::Value, handed, value(lookup));
 }
 
 /// A path that leads somewhere, one next to it, or any.
@@ -161,15 +153,15 @@ fn some_path(inputs: &mut Inputs, paths: &[Path]) -> Path {
 
 /// Objects in objects, some of them damaged, and a path for each.
 fn nested_lookups(file: &mut File, inputs: &mut Inputs) {
-    for i in 0..600 {
+    for i in 0..300 {
         let (bytes, paths) = nested(inputs, 1 + i % 5);
         let path = some_path(inputs, &paths);
         let bytes = match inputs.below(3) {
-            0 => damaged(inputs, &bytes),
+            0 => inputs.damaged(&bytes),
             _ => bytes,
         };
         let bytes = &bytes[..bytes.len().min(250)];
-        add_lookup(file, &Text::of(bytes), &path);
+        add_lookup(file, bytes, &path);
     }
 }
 
@@ -180,10 +172,9 @@ const FILLINGS: [(usize, u8); 6] =
 /// Many small objects, and the one that is asked for behind them.
 fn lookups_behind(file: &mut File) {
     for (len, first) in FILLINGS {
-        let filling = Filling { len, first, step: 0 };
-        let text = Text::filled(&[], filling, &[0x5F, 0x24, 0x03, 0x26, 0x10, 0x09]);
+        let record = [&filled(len, first, 0)[..], &[0x5F, 0x24, 0x03, 0x26, 0x10, 0x09]].concat();
         for path in [&[0x5F24][..], &[u32::from(first)], &[0x5F25], &[0x26], &[]] {
-            add_lookup(file, &text, path);
+            add_lookup(file, &record, path);
         }
     }
 }
@@ -191,11 +182,11 @@ fn lookups_behind(file: &mut File) {
 /// A value as long as there can be, and shorter ones.
 fn long_lookups(file: &mut File, inputs: &mut Inputs) {
     for len in [127, 255, 300, 65_534, 65_535] {
-        let [_, high, low] = three(len);
-        let value = Text::some(inputs, len);
-        let text = value.within(&[0x70, 0x82, high, low], &[0x5A, 0x01, 0xAA]);
+        let [high, low] = (len as u16).to_be_bytes();
+        let value = some_bytes(inputs, len);
+        let record = [&[0x70, 0x82, high, low], &value[..], &[0x5A, 0x01, 0xAA]].concat();
         for path in [&[0x70][..], &[0x5A], &[0x70, 0x5A], &[0x5B]] {
-            add_lookup(file, &text, path);
+            add_lookup(file, &record, path);
             add_lookup(file, &value, path);
         }
     }
@@ -209,11 +200,11 @@ const WRITTEN: [u32; 14] = [
 
 /// A tag and any value of so many bytes, written.
 fn add_write(file: &mut File, inputs: &mut Inputs, tag: [u8; 3], len: usize) {
-    let value = Text::some(inputs, len);
-    let object = writing::Object::of(tag, &value.bytes);
-    let told = |left: Left<1>, answer: Recorded| answer.string(&left.bytes);
-    let answer = Recorded::of(put(object, 0).rust(len + 6), told);
-    file.add(10, &value, &tag, answer);
+    let value = some_bytes(inputs, len);
+    let at = inputs.below(4);
+    let numbers: Vec<usize> = tag.into_iter().map(usize::from).chain([at]).collect();
+    let handed = Handed::new(&value, numbers).to(len + 8);
+    file.add(Operation::PutDataObject, handed, put(writing::Object::of(tag, &value), at));
 }
 
 fn writing(file: &mut File, inputs: &mut Inputs) {

@@ -1,12 +1,13 @@
 -- It ends: each turn puts a byte. Assumes nothing.
 use borrow.Author.Needs.{needs}
 use Prim.Native.Nat.{_-_}
+use mathlib.Core.Path.{_≡_}
 use lib.ListN.{length}
 use Rattle.replay.proofs.strings.copied.Statement.{statement}
 use Rattle.replay.proofs.strings.copied.Tie as tie
 
 abbrev Inv-loop : tie.InvT-loop
-Inv-loop s to₀ from at₀ i₀ to at i = Unit {0}
+Inv-loop s to₀ from at₀ i₀ to at i = length to ≡ length to₀
 
 abbrev μ-loop : tie.MeasureT-loop
 μ-loop s to₀ from at₀ i₀ to at i = length s - i
@@ -20,6 +21,7 @@ copied-spec =
     (λ c. search needs)
     (λ c. search needs)
     (λ c κs. search needs)
+    (λ c. search needs)
     (λ c. search needs)
     (λ c. search needs)
     (λ c. search needs)

@@ -1,11 +1,13 @@
 -- It ends: each turn puts a byte. Assumes nothing.
 use borrow.Author.Needs.{needs}
 use Prim.Native.Nat.{_-_}
+use mathlib.Core.Path.{_≡_}
+use lib.ListN.{length}
 use Rattle.replay.proofs.strings.filled.Statement.{statement}
 use Rattle.replay.proofs.strings.filled.Tie as tie
 
 abbrev Inv-loop : tie.InvT-loop
-Inv-loop to₀ from n first step at₀ b₀ i₀ to at b i = Unit {0}
+Inv-loop to₀ from n first step at₀ b₀ i₀ to at b i = length to ≡ length to₀
 
 abbrev μ-loop : tie.MeasureT-loop
 μ-loop to₀ from n first step at₀ b₀ i₀ to at b i = n - i
@@ -19,6 +21,7 @@ filled-spec =
     (λ c. search needs)
     (λ c κs. search needs)
     (λ c κs. search needs)
+    (λ c. search needs)
     (λ c. search needs)
     (λ c. search needs)
     (λ c. search needs)

@@ -1,24 +1,24 @@
--- It ends: each turn counts, and there are 18. Assumes nothing.
+-- It ends: each turn reads a number, at most 16. Assumes nothing.
 use borrow.Author.Needs.{needs}
 use Prim.Native.Nat.{_-_}
-use Rattle.replay.proofs.lines.Statement.{statement}
-use Rattle.replay.proofs.lines.Tie as tie
+use Rattle.replay.proofs.input.numbers.Statement.{statement}
+use Rattle.replay.proofs.input.numbers.Tie as tie
 
 abbrev Inv-loop : tie.InvT-loop
-Inv-loop answers differing operation₀ operation = Unit {0}
+Inv-loop s from to₀ at₀ i₀ to at i = Unit {0}
 
 abbrev μ-loop : tie.MeasureT-loop
-μ-loop answers differing operation₀ operation = 19 - operation
+μ-loop s from to₀ at₀ i₀ to at i = 16 - i
 
-pub lines-spec : {M : Type 1} → statement M
-lines-spec =
+pub numbers-spec : {M : Type 1} → statement M
+numbers-spec =
     tie.close
     (tie.spec
     Inv-loop
     μ-loop
     (λ c. search needs)
-    (λ c κs. search needs)
     (λ c. search needs)
+    (λ c κs. search needs)
     (λ c. search needs)
     (λ c. search needs)
     (λ c. search needs)

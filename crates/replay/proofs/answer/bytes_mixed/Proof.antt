@@ -1,22 +1,23 @@
--- It ends: each turn puts a byte. Assumes nothing.
+-- It ends: each turn takes a byte. Assumes nothing.
 use borrow.Author.Needs.{needs}
 use Prim.Native.Nat.{_-_}
 use lib.ListN.{length}
-use Rattle.replay.proofs.answer.put.Statement.{statement}
-use Rattle.replay.proofs.answer.put.Tie as tie
+use Rattle.replay.proofs.answer.bytes_mixed.Statement.{statement}
+use Rattle.replay.proofs.answer.bytes_mixed.Tie as tie
 
 abbrev Inv-loop : tie.InvT-loop
-Inv-loop out₀ from s at₀ i₀ out at i = Unit {0}
+Inv-loop s sum₀ i₀ sum i = Unit {0}
 
 abbrev μ-loop : tie.MeasureT-loop
-μ-loop out₀ from s at₀ i₀ out at i = length s - i
+μ-loop s sum₀ i₀ sum i = length s - i
 
-pub put-spec : {M : Type 1} → statement M
-put-spec =
+pub bytes-mixed-spec : {M : Type 1} → statement M
+bytes-mixed-spec =
     tie.close
     (tie.spec
     Inv-loop
     μ-loop
+    (λ c. search needs)
     (λ c. search needs)
     (λ c. search needs)
     (λ c κs. search needs)

@@ -1,0 +1,28 @@
+-- It ends: each turn writes a byte. Assumes nothing.
+use borrow.Author.Needs.{needs}
+use Prim.Native.Nat.{_-_}
+use mathlib.Core.Path.{_≡_}
+use lib.ListN.{length}
+use Rattle.replay.proofs.answer.lend_bytes.Statement.{statement}
+use Rattle.replay.proofs.answer.lend_bytes.Tie as tie
+
+abbrev Inv-loop : tie.InvT-loop
+Inv-loop to₀ i₀ to i = length to ≡ length to₀
+
+abbrev μ-loop : tie.MeasureT-loop
+μ-loop to₀ i₀ to i = length to₀ - i
+
+pub lend-bytes-spec : {M : Type 1} → statement M
+lend-bytes-spec =
+    tie.close
+    (tie.spec
+    Inv-loop
+    μ-loop
+    (λ c. search needs)
+    (λ c. search needs)
+    (λ c. search needs)
+    (λ c. search needs)
+    (λ c. search needs)
+    (λ c. search needs)
+    (λ c. search needs)
+    (λ c. search needs))
