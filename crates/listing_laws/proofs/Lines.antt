@@ -10,17 +10,7 @@ use Rattle.command.specs.declared.CommandView.{CommandView}
 use Rattle.listing.specs.Ascii.{ascii}
 use Rattle.listing.specs.Text.{hexDigit, hex, decimal, piece, mark, filled, viewNumbers, line, commandLine}
 use Rattle.listing.proofs.Walking.{refused-line, view-line}
-
--- the last word
-abbrev word : Bool → List ℕ
-word true = ascii " extended\n"
-word false = ascii " short\n"
-
--- the number k of a command, its header, its lengths, and the last word
-abbrev words : ℕ → CommandView → Bool → List ℕ
-words k v x =
-    decimal k ++ (ascii " " ++ (hex (v .class .cla) ++ (ascii " " ++ (hex (v .instruction) ++ (ascii " " ++ (hex (v .p1)
-    ++ (ascii " " ++ (hex (v .p2) ++ (ascii " lc " ++ (decimal (v .len) ++ (ascii " le " ++ (decimal (v .le) ++ word x))))))))))))
+use Rattle.listing_laws.specs.Lines.{words}
 
 filled-view : (k : ℕ) (v : CommandView) (x : Bool)
     → line (cond x "% # # # # lc % le % extended\n" "% # # # # lc % le % short\n") (viewNumbers k v) ≡ words k v x
