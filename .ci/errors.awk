@@ -1,7 +1,11 @@
 # Prints of what kinds the errors are that stand at a place in the log of a must-fail edit: "a fact" where one of them is, otherwise the
 # other kinds with their counts, or nothing. .ci/refused says what the kinds are.
-#   awk -v place=PLACE -f errors.awk LOG     PLACE is `fn CRATE::PATH`, or the end of a file's path: CRATE/EDIT/proofs/PATH.antt
-BEGIN { in_file = place !~ /^fn / }
+#   awk -v place=PLACE -f errors.awk LOG     PLACE is `fn CRATE::PATH`, or the end of a file's path: CRATE/EDIT/proofs/PATH.antt, and behind
+#                                            a blank the name of a definition in it where only its errors count
+BEGIN {
+    in_file = place !~ /^fn /
+    if (in_file && split(place, parts, " ") == 2) { place = parts[1]; named = "`" parts[2] "`: " }
+}
 # an error's text goes on in the lines behind it that are set in
 /^  / { sub(/^ +/, " "); text = text $0; next }
 { judge(); text = $0 }
@@ -9,7 +13,7 @@ END { judge(); report() }
 
 function judge(    at) {
     at = index(text, ": error: ")
-    if (in_file && index(substr(text, 1, at), "/" place ":")) tally(kind(text))
+    if (in_file && index(substr(text, 1, at), "/" place ":") && index(substr(text, at + 9), named) == 1) tally(kind(text))
     if (!in_file && index(text, place ": ") == 1 && text !~ /: proved$/) tally(kind_of_search(text))
 }
 
