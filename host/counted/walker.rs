@@ -172,13 +172,9 @@ impl<'a> Walker<'a> {
         let previous = if i == 0 { "" } else { self.at(i - 1) };
         match (self.at(i), self.at(i + 1)) {
             ("#", "[") => self.attribute(i),
-            (word, "!") if word.starts_with(|c: char| c.is_alphabetic()) => {
-                self.copy(i, self.behind(i + 2))
-            }
+            (word, "!") if word.starts_with(|c: char| c.is_alphabetic()) => self.copy(i, self.behind(i + 2)),
             ("const", "fn") => self.constant_function(i, previous == "pub"),
-            ("const", _) if previous != "<" && previous != "," => {
-                self.copy_constant(i, self.find(i, &[";"]))
-            }
+            ("const", _) if previous != "<" && previous != "," => self.copy_constant(i, self.find(i, &[";"])),
             ("impl", _) => self.implementation(i),
             ("fn", name) if name != "(" => self.function(i),
             ("if", _) => self.condition(i),
@@ -188,9 +184,7 @@ impl<'a> Walker<'a> {
             }
             ("match", _) => self.arms(i),
             ("for" | "while" | "loop", _) => self.iteration(i),
-            ("|" | "||", _) if matches!(previous, "(" | "," | "=" | "=>" | "move" | "{" | ";") => {
-                self.closure(i)
-            }
+            ("|" | "||", _) if matches!(previous, "(" | "," | "=" | "=>" | "move" | "{" | ";") => self.closure(i),
             ("?", _) if previous != "+" && previous != ":" => self.early(i),
             _ => self.copy(i, i + 1),
         }

@@ -27,9 +27,7 @@ fn main() {
     println!("cargo:rerun-if-env-changed=GORVISCLEN_LIB");
     let folder = match env::var_os("GORVISCLEN_LIB") {
         Some(folder) => PathBuf::from(folder),
-        None => {
-            PathBuf::from(env::var_os("CARGO_MANIFEST_DIR").unwrap()).join("../../target/staticlib")
-        }
+        None => PathBuf::from(env::var_os("CARGO_MANIFEST_DIR").unwrap()).join("../../target/staticlib"),
     };
     // The folder stands for all that is in it: an archive that comes, goes or changes is seen.
     println!("cargo:rerun-if-changed={}", folder.display());

@@ -3,13 +3,8 @@
 use std::path::{Path, PathBuf};
 use std::{env, fs, process};
 
-const FILES: [&str; 5] = [
-    "command.rs",
-    "command/class.rs",
-    "command/datasource.rs",
-    "command/instruction.rs",
-    "command/writer.rs",
-];
+const FILES: [&str; 5] =
+    ["command.rs", "command/class.rs", "command/datasource.rs", "command/instruction.rs", "command/writer.rs"];
 
 fn folder(variable: &str) -> PathBuf {
     PathBuf::from(env::var_os(variable).unwrap())

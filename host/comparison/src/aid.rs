@@ -1,14 +1,12 @@
 //! The AID: every length to 17, every truncated length to 18, every first byte, and what else each test below says.
 
 mod operations;
-mod recorded;
 mod timed;
 
 use gorvisclen::AID_NUMBERS;
 use original::aid::Aid;
 
 use self::operations::{make, make_whole, matches, part, Case, PIV};
-pub use self::recorded::record;
 pub use self::timed::time;
 
 use crate::call::Call;
@@ -84,9 +82,7 @@ fn every_first_byte(tally: &mut Tally, inputs: &mut Inputs) {
 
 /// Lengths and truncated lengths far above, where a number cut to a byte or to two would show.
 fn far_above(tally: &mut Tally, inputs: &mut Inputs) {
-    for (len, first) in
-        pairs([5, 16, 18, 255, 256, 261, 272, 65_541], [0xA0, 0xD2, 0xE8, 0xF0, 0x00])
-    {
+    for (len, first) in pairs([5, 16, 18, 255, 256, 261, 272, 65_541], [0xA0, 0xD2, 0xE8, 0xF0, 0x00]) {
         let name = name_of(inputs, first, len);
         for truncated_len in [5, 255, 256, 261, 65_536, 65_541, usize::MAX] {
             Case::of(&name, truncated_len).every_operation(tally, inputs);

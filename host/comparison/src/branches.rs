@@ -5,8 +5,7 @@ use original::{Branch, BRANCHES};
 use crate::jobs::LEAST;
 
 const DEBUG: &str = "document 01 leaves Debug behind";
-const NESTED: &str =
-    "a builder as the data of another writer: document 01 leaves nested data sources behind";
+const NESTED: &str = "a builder as the data of another writer: document 01 leaves nested data sources behind";
 
 /// Branches that are not taken: the file, a part of the function's name, a part of the text (nothing for all of the function), why.
 /// One that is taken all the same makes the run fail, and so does a row that no branch is of.

@@ -6,7 +6,6 @@ mod edges;
 mod fields;
 mod model;
 mod operations;
-pub mod recorded;
 mod timed;
 
 use std::hint::black_box;
@@ -14,11 +13,8 @@ use std::hint::black_box;
 use gorvisclen::{EXPECTED_MAX, EXTENDED_FORCED, EXTENDED_SUPPORTED};
 
 pub use self::asked::{bytes_of, expected, Asked, Builder};
-use self::fields::{
-    some_expected, some_header, some_mode, EXPECTED, HEADERS, LONG, MODES, REFUSED, SHORT, TOO_LONG,
-};
+use self::fields::{some_expected, some_header, some_mode, EXPECTED, HEADERS, LONG, MODES, REFUSED, SHORT, TOO_LONG};
 use self::operations::{equals, force, length, read_back, write};
-pub use self::recorded::record;
 pub use self::timed::time;
 use crate::call::Call;
 use crate::inputs::Inputs;
@@ -125,7 +121,7 @@ fn every_operation(tally: &mut Tally, inputs: &mut Inputs, asked: Asked) {
 }
 
 /// Lengths of data and expected lengths around each boundary, in every mode.
-fn every_boundary(tally: &mut Tally, inputs: &mut Inputs) {
+pub fn every_boundary(tally: &mut Tally, inputs: &mut Inputs) {
     let row = inputs.bytes(65_535);
     for (n, le, mode) in triples(SHORT.into_iter().chain(LONG), EXPECTED, MODES) {
         for _ in 0..if n < 1_000 { 4 } else { 1 } {
@@ -183,8 +179,7 @@ fn every_length(tally: &mut Tally, inputs: &mut Inputs) {
 /// Every mode byte.
 fn every_mode(tally: &mut Tally, inputs: &mut Inputs) {
     let row = inputs.bytes(256);
-    for (mode, n, le) in triples(0..=255, [0, 1, 255, 256], [0, 1, 256, 257, 65_535, EXPECTED_MAX])
-    {
+    for (mode, n, le) in triples(0..=255, [0, 1, 255, 256], [0, 1, 256, 257, 65_535, EXPECTED_MAX]) {
         let asked = Asked::new(some_header(inputs), le, mode, &row[..n]);
         every_operation(tally, inputs, asked);
     }
@@ -221,8 +216,7 @@ fn every_place(tally: &mut Tally, inputs: &mut Inputs) {
         let header = HEADERS[inputs.below(HEADERS.len() - 1)];
         let asked = Asked::new(header, le, mode, data);
         for buffer_len in 0..=16 {
-            for (at, len) in pairs((0..=buffer_len + 3).chain([usize::MAX - 1, usize::MAX]), 0..=2)
-            {
+            for (at, len) in pairs((0..=buffer_len + 3).chain([usize::MAX - 1, usize::MAX]), 0..=2) {
                 write(asked, at).compare(tally, buffer_len, len);
             }
         }
@@ -233,10 +227,9 @@ fn every_place(tally: &mut Tally, inputs: &mut Inputs) {
 /// every 1,021st between them.
 fn every_place_at_a_boundary(tally: &mut Tally, inputs: &mut Inputs) {
     let row = inputs.bytes(65_535);
-    for (n, (mode, le)) in pairs(
-        [0, 1, 254, 255, 256, 257, 65_535],
-        [(0, 5), (1, 0), (1, 256), (1, 257), (2, EXPECTED_MAX)],
-    ) {
+    for (n, (mode, le)) in
+        pairs([0, 1, 254, 255, 256, 257, 65_535], [(0, 5), (1, 0), (1, 256), (1, 257), (2, EXPECTED_MAX)])
+    {
         let asked = Asked::new(HEADERS[1], le, mode, &row[..n]);
         let need = asked.len_in(mode);
         for buffer_len in [need - 1, need, need + 3] {

@@ -1,5 +1,5 @@
 //! A call of an exported function, described once: its inputs, the library's call, and what it has to leave by the Rust or by a
-//! model. The comparison and the benchmark run calls that are described so.
+//! model. The comparison, the recorder and the benchmark run calls that are described so.
 
 use std::borrow::Cow;
 use std::fmt::Debug;
@@ -7,6 +7,7 @@ use std::fmt::Debug;
 use gorvisclen::{Refused, Reply, NONE};
 
 use crate::lent::{bytes, numbers, Hex, Lent, Outcome};
+use crate::record::{Handed, Operation};
 use crate::tally::{Names, Tally};
 
 /// What a call has to leave: numbers at the front of `out`, and bytes in `to` from a place on.
@@ -70,22 +71,53 @@ pub fn leave<const N: usize>(answer: &Answer<N>, to: &mut [u8], out: &mut [u64])
 
 /// What a call is handed beside what it writes to. It is printed where a call differs.
 pub trait Given: Debug {
+    /// Hands over its strings and its numbers, each in the order of the exported function.
+    fn hand<'a>(&'a self, _: &mut Handed<'a>) {}
+
     /// The bytes that are lent to be read.
     fn read(&self) -> Vec<u8> {
-        Vec::new()
+        handed(self).read()
     }
 }
 
-impl Given for u8 {}
-impl Given for usize {}
+fn handed<I: Given + ?Sized>(inputs: &I) -> Handed<'_> {
+    let mut handed = Handed::default();
+    inputs.hand(&mut handed);
+    handed
+}
+
+impl Given for () {}
+
+impl Given for u8 {
+    fn hand<'a>(&'a self, to: &mut Handed<'a>) {
+        to.number((*self).into());
+    }
+}
+
+impl Given for usize {
+    fn hand<'a>(&'a self, to: &mut Handed<'a>) {
+        to.number(*self);
+    }
+}
+
+impl<T: Given, const N: usize> Given for [T; N] {
+    fn hand<'a>(&'a self, to: &mut Handed<'a>) {
+        self.iter().for_each(|n| n.hand(to));
+    }
+}
 
 impl Given for Hex<'_, u8> {
-    fn read(&self) -> Vec<u8> {
-        self.to_vec()
+    fn hand<'a>(&'a self, to: &mut Handed<'a>) {
+        to.string(self);
     }
 }
 
 impl<A: Given, B: Given> Given for (A, B) {
+    fn hand<'a>(&'a self, to: &mut Handed<'a>) {
+        self.0.hand(to);
+        self.1.hand(to);
+    }
+
     fn read(&self) -> Vec<u8> {
         [self.0.read(), self.1.read()].concat()
     }
@@ -98,6 +130,9 @@ pub trait Call<const N: usize>: Debug {
 
     /// What is lent to be read.
     fn read(&self) -> Vec<u8>;
+
+    /// The operation that it is recorded as, if it is, and what it is handed.
+    fn recorded(&self) -> Option<(Operation, Handed<'_>)>;
 
     /// The library's call.
     fn ours(&self, to: &mut [u8], out: &mut [u64]) -> Reply;
@@ -124,39 +159,30 @@ pub trait Call<const N: usize>: Debug {
     fn compare_unread(&self, tally: &mut Tally, out_len: usize) {
         let (answer, before) = (self.theirs(0), bytes(0));
         let names = self.names(0, &answer);
-        self.run(tally, names, &answer, (&before, out_len), &Vec::new);
+        self.run(tally, names, &answer, (&before, out_len), false);
     }
 
     /// Holds it to an answer, with `to` as it is before.
-    fn held(
-        &self,
-        tally: &mut Tally,
-        names: Names,
-        answer: &Answer<N>,
-        before: &Lent<u8>,
-        len: usize,
-    ) {
-        self.run(tally, names, answer, (before, len), &|| self.read());
+    fn held(&self, tally: &mut Tally, names: Names, answer: &Answer<N>, before: &Lent<u8>, len: usize) {
+        self.run(tally, names, answer, (before, len), true);
     }
 
-    fn run(
-        &self,
-        tally: &mut Tally,
-        names: Names,
-        answer: &Answer<N>,
-        (before, len): (&Lent<u8>, usize),
-        read: &dyn Fn() -> Vec<u8>,
-    ) {
+    fn run(&self, tally: &mut Tally, names: Names, answer: &Answer<N>, (before, len): (&Lent<u8>, usize), read: bool) {
         let outcome = |call: &dyn Fn(&mut [u8], &mut [u64]) -> Reply| {
             let (mut to, mut out) = (before.clone(), numbers(len));
             let reply = call(to.part(), out.part());
-            Outcome::new(reply, out, to).reading(read())
+            let read = if read { self.read() } else { Vec::new() };
+            Outcome::new(reply, out, to).reading(read)
         };
         let theirs = outcome(&|to, out| leave(answer, to, out));
         let ours = outcome(&|to, out| self.ours(to, out));
         let to_len = before.len();
         let input = || format!("{self:?}, to of {to_len} bytes, out of {len} numbers");
         tally.compare(names, input, &theirs, &ours);
+        if let Some(file) = &mut tally.file {
+            let recorded = self.recorded().into_iter();
+            recorded.for_each(|(operation, handed)| file.add(operation, &handed, to_len, answer));
+        }
     }
 
     /// Holds it to an answer that is written down, under a name of its own, and compares it.
@@ -177,27 +203,29 @@ pub struct Described<I, O, R, const N: usize> {
     rust: R,
     naming: Option<Naming<I, N>>,
     theirs: Option<fn(&I, usize) -> Answer<'_, N>>,
+    operation: Option<Operation>,
 }
 
 /// A call on inputs, by its names, the library's call and the Rust's answer. Both are handed the inputs, so that they borrow from them.
 #[inline(always)]
-pub fn call<I: Given, const N: usize, O, R>(
-    names: Names,
-    inputs: I,
-    ours: O,
-    rust: R,
-) -> Described<I, O, R, N>
+pub fn call<I: Given, const N: usize, O, R>(names: Names, inputs: I, ours: O, rust: R) -> Described<I, O, R, N>
 where
     O: Fn(&I, &mut [u8], &mut [u64]) -> Reply,
     R: Fn(&I, usize) -> Answer<'_, N>,
 {
-    Described { inputs, names, ours, rust, naming: None, theirs: None }
+    Described { inputs, names, ours, rust, naming: None, theirs: None, operation: None }
 }
 
 impl<I, O, R, const N: usize> Described<I, O, R, N> {
     /// With names by the answer, or by the length of `to`.
     pub fn counted(mut self, naming: Naming<I, N>) -> Self {
         self.naming = Some(naming);
+        self
+    }
+
+    /// Recorded as an operation, if it is one that the Rust answers.
+    pub fn recorded_as(mut self, operation: impl Into<Option<Operation>>) -> Self {
+        self.operation = operation.into();
         self
     }
 
@@ -226,6 +254,10 @@ where
 
     fn read(&self) -> Vec<u8> {
         self.inputs.read()
+    }
+
+    fn recorded(&self) -> Option<(Operation, Handed<'_>)> {
+        self.operation.map(|operation| (operation, handed(&self.inputs)))
     }
 
     #[inline(always)]

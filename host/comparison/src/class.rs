@@ -1,15 +1,13 @@
 //! The class byte: every byte, every operation, `out` of every length to 13; and again in any order.
 
 use gorvisclen::{CLASS_CONSTANTS, CLASS_NUMBERS, NONE};
-use original::command::class::{
-    Chain, Class, Interindustry, Range, SecureMessaging, NO_SM_CLA, SM_CLA, ZERO_CLA,
-};
+use original::command::class::{Chain, Class, Interindustry, Range, SecureMessaging, NO_SM_CLA, SM_CLA, ZERO_CLA};
 
 use crate::call::{call, Call};
 use crate::inputs::Inputs;
-use crate::record::{File, Handed, Operation};
+use crate::record::Operation;
 use crate::tally::Tally;
-use crate::timing::{Lines, Size};
+use crate::timing::{Lines, Size, NO_LIMIT};
 
 /// What each number of a class is.
 const NUMBERS: [&str; CLASS_NUMBERS] = [
@@ -113,9 +111,7 @@ fn with_standard(mut numbers: Numbers) -> Numbers {
     let messaging = standard_secure_messaging(cla);
     let none = messaging == SecureMessaging::None;
     let channel = of_channel(standard_channel(cla));
-    for (place, n) in
-        STANDARD.into_iter().zip([of_secure_messaging(messaging), none.into(), channel])
-    {
+    for (place, n) in STANDARD.into_iter().zip([of_secure_messaging(messaging), none.into(), channel]) {
         numbers[place] = n;
     }
     numbers
@@ -134,6 +130,7 @@ fn make(cla: u8) -> impl Call<CLASS_NUMBERS> {
         |&cla, _| Ok(of_class(made(cla)?).into()),
     )
     .held_to(|&cla, _| Ok(with_standard(of_class(made(cla)?)).into()))
+    .recorded_as(Operation::Class)
 }
 
 /// The same with its chaining bit set.
@@ -145,6 +142,7 @@ fn chained(cla: u8) -> impl Call<CLASS_NUMBERS> {
         |&cla, _| Ok(of_class(made(cla)?.as_chained()).into()),
     )
     .held_to(|&cla, _| Ok(with_standard(of_class(made(cla)?.as_chained())).into()))
+    .recorded_as(Operation::ClassAsChained)
 }
 
 fn range(cla: u8) -> impl Call<1> {
@@ -154,16 +152,18 @@ fn range(cla: u8) -> impl Call<1> {
         |&cla, _, out| gorvisclen::range(cla, out),
         |&cla, _| Ok([of_range(Range::from_cla(cla).map_err(|_| 3)?)].into()),
     )
+    .recorded_as(Operation::Range)
 }
 
 fn constants() -> impl Call<CLASS_CONSTANTS> {
     let bytes = || [ZERO_CLA, NO_SM_CLA, SM_CLA].map(|class| class.into_inner().into());
     call(
         ("the constants of class", &CONSTANTS),
-        0,
-        |_: &u8, _, out| gorvisclen::class_constants(out),
+        (),
+        |_, _, out| gorvisclen::class_constants(out),
         move |_, _| Ok(bytes().into()),
     )
+    .recorded_as(Operation::ClassConstants)
 }
 
 /// Every operation on a class byte, with `out` of a length.
@@ -185,33 +185,32 @@ pub fn random(tally: &mut Tally, inputs: &mut Inputs) {
     constants().compare_numbers(tally, inputs.below(6));
 }
 
+/// Every byte, with `out` of a length.
+fn every_byte(tally: &mut Tally, len: usize) {
+    for cla in 0..=255 {
+        every_operation(tally, cla, len);
+    }
+    constants().compare_numbers(tally, len);
+}
+
 pub fn compare(tally: &mut Tally, inputs: &mut Inputs) {
     for len in 0..=13 {
-        for cla in 0..=255 {
-            every_operation(tally, cla, len);
-        }
-        constants().compare_numbers(tally, len);
+        every_byte(tally, len);
     }
     for _ in 0..5_000 {
         random(tally, inputs);
     }
 }
 
-pub fn record(file: &mut File, _: &mut Inputs) {
-    for cla in 0..=u8::MAX {
-        let handed = || Handed::new(&[], [cla.into()]);
-        file.add(Operation::Class, handed(), make(cla));
-        file.add(Operation::ClassAsChained, handed(), chained(cla));
-        file.add(Operation::Range, handed(), range(cla));
-    }
-    file.add(Operation::ClassConstants, Handed::new(&[], []), constants());
+pub fn recorded(tally: &mut Tally, _: &mut Inputs) {
+    every_byte(tally, CLASS_NUMBERS);
 }
 
 /// The Rust gives the 8 numbers that it has; ours gives these and the 3 of the standard reading.
 pub fn time(lines: &mut Lines) {
     let size = Size::default();
     let every: Vec<_> = (0..=255).map(make).collect();
-    lines.calls("class, every byte", &every, size);
+    lines.calls("class, every byte", NO_LIMIT, &every, size);
     for (name, cla) in [
         ("  first interindustry, 0D", 0x0D),
         ("  further interindustry, 65", 0x65),
@@ -219,10 +218,10 @@ pub fn time(lines: &mut Lines) {
         ("  proprietary, 84", 0x84),
         ("  refused 3, FF", 0xFF),
     ] {
-        lines.calls(name, &[make(cla)], size);
+        lines.calls(name, NO_LIMIT, &[make(cla)], size);
     }
     let every: Vec<_> = (0..=255).map(chained).collect();
-    lines.calls("class, chained, every byte", &every, size);
+    lines.calls("class, chained, every byte", NO_LIMIT, &every, size);
     let every: Vec<_> = (0..=255).map(range).collect();
-    lines.calls("range of a class, every byte", &every, size);
+    lines.calls("range of a class, every byte", NO_LIMIT, &every, size);
 }

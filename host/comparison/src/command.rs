@@ -3,7 +3,6 @@
 
 mod operations;
 mod parsed;
-mod recorded;
 mod standard;
 mod timed;
 
@@ -12,7 +11,6 @@ use gorvisclen::{COMMAND_NUMBERS, CRATE_READING, OWNED_NUMBERS, STANDARD_READING
 use self::operations::{data, extend, own, parse, Asked, Piece, Room, ROOMS, SHORT_ROOMS};
 use self::parsed::written;
 pub use self::parsed::{by_rust, of_owned};
-pub use self::recorded::{commands, record};
 use self::standard::CASES;
 pub use self::timed::time;
 use crate::call::Call;
@@ -87,17 +85,11 @@ fn every_extension(tally: &mut Tally, inputs: &mut Inputs, apdu: &[u8]) {
         }
     }
     let some = inputs.below(room.len + 1);
-    let past = [
-        room.len + 1,
-        room.len + 65_536,
-        some + (1 << 32),
-        usize::MAX,
-        (usize::MAX - n).wrapping_add(1 + some),
-    ];
+    let past = [room.len + 1, room.len + 65_536, some + (1 << 32), usize::MAX, (usize::MAX - n).wrapping_add(1 + some)];
     for len in past {
         if len > room.len {
             let out_len = OWNED_NUMBERS - usize::from(inputs.below(8) == 0);
-            extend(len, apdu).compare(tally, room.len, out_len);
+            extend(len, apdu, true).compare(tally, room.len, out_len);
         }
     }
 }
@@ -207,7 +199,7 @@ fn every_length(tally: &mut Tally, inputs: &mut Inputs) {
 }
 
 /// Every operation on bodies and on commands of the lengths around each boundary, with an Le around each boundary.
-fn every_boundary(tally: &mut Tally, inputs: &mut Inputs) {
+pub fn every_boundary(tally: &mut Tally, inputs: &mut Inputs) {
     let lengths = (0..=8).chain(246..=262).chain(65_526..=65_545);
     for l in lengths {
         let mut apdu = inputs.bytes(4 + l);
@@ -243,7 +235,7 @@ fn every_buffer(tally: &mut Tally) {
                     (room.extended)(tally, len, &[Piece { apdu, out_len }]);
                 }
                 for len in room.len + 1..=room.len + 4 {
-                    extend(len, apdu).compare(tally, room.len, out_len);
+                    extend(len, apdu, true).compare(tally, room.len, out_len);
                 }
             }
         }

@@ -5,11 +5,18 @@ use std::rc::Rc;
 pub struct Inputs {
     state: u64,
     row: Option<Rc<[u8]>>,
+    /// How many bytes of a row are any, before the others follow by a step.
+    any: usize,
 }
 
 impl Inputs {
     pub fn of(state: u64) -> Self {
-        Inputs { state, row: None }
+        Inputs { state, row: None, any: usize::MAX }
+    }
+
+    /// Those whose rows of bytes take few bytes in the recorded file.
+    pub fn recorded(state: u64) -> Self {
+        Inputs { any: 12, ..Inputs::of(state) }
     }
 
     /// Those of the job with a number, in a run with a seed.
@@ -50,7 +57,12 @@ impl Inputs {
     }
 
     pub fn bytes(&mut self, len: usize) -> Vec<u8> {
-        (0..len).map(|_| self.byte()).collect()
+        if len <= self.any {
+            return (0..len).map(|_| self.byte()).collect();
+        }
+        let (first, step) = (self.byte(), self.byte() | 1);
+        let next = |byte: &u8| Some(byte.wrapping_add(step));
+        std::iter::successors(Some(first), next).take(len).collect()
     }
 
     /// A copy with one byte changed; of no bytes, a copy.

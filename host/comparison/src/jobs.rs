@@ -84,12 +84,7 @@ pub fn run(asked: &Asked, whole: &[Job], random: &[(&'static str, Job)]) -> Done
             add(&mut branches, &taken);
         }
     });
-    Done {
-        asked: asked.cases,
-        tally,
-        random: random.iter().map(|kind| kind.0).zip(shares).collect(),
-        branches,
-    }
+    Done { asked: asked.cases, tally, random: random.iter().map(|kind| kind.0).zip(shares).collect(), branches }
 }
 
 impl Done {

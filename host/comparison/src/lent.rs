@@ -149,13 +149,5 @@ impl fmt::Debug for Hex<'_, u32> {
 pub fn places_past(before: usize, need: usize) -> [usize; 7] {
     let exact = before + need;
     let wrapping = (usize::MAX - need).wrapping_add(1);
-    [
-        exact,
-        exact + 1,
-        exact + 65_536,
-        before + (1 << 32),
-        usize::MAX,
-        wrapping,
-        wrapping.wrapping_add(before),
-    ]
+    [exact, exact + 1, exact + 65_536, before + (1 << 32), usize::MAX, wrapping, wrapping.wrapping_add(before)]
 }

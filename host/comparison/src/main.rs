@@ -67,20 +67,27 @@ const RANDOM: [(&str, Job); 9] = [
     ("pieces, joined", reassembler::random),
 ];
 
-/// What is recorded, in the order of the file.
-const RECORDED: [fn(&mut File, &mut Inputs); 6] =
-    [class::record, aid::record, tlv::record, command::record, builder::record, splitter::record];
+/// What is recorded: jobs, and how often each is run.
+const RECORDED: [(usize, Job); 14] = [
+    (1, class::recorded),
+    (300, aid::random),
+    (150, tlv::random),
+    (1, tlv::every_length),
+    (1, tlv::behind_many),
+    (400, tlv::random_writing),
+    (1, tlv::every_written_boundary),
+    (200, command::random),
+    (100, command::random_chain),
+    (1, command::every_boundary),
+    (400, builder::random),
+    (1, builder::every_boundary),
+    (2_000, splitter::random_step),
+    (400, splitter::random_chain),
+];
 
 /// What is timed, in the order of the lines.
-const TIMED: [fn(&mut Lines); 7] = [
-    class::time,
-    aid::time,
-    command::time,
-    builder::time,
-    splitter::time,
-    reassembler::time,
-    tlv::time,
-];
+const TIMED: [fn(&mut Lines); 7] =
+    [class::time, aid::time, command::time, builder::time, splitter::time, reassembler::time, tlv::time];
 
 fn class_and_aid(tally: &mut Tally, inputs: &mut Inputs) {
     class::random(tally, inputs);
@@ -88,11 +95,7 @@ fn class_and_aid(tally: &mut Tally, inputs: &mut Inputs) {
 }
 
 fn asked(words: &[&str]) -> Option<Asked> {
-    let mut asked = Asked {
-        cases: 0,
-        seed: 7816,
-        threads: thread::available_parallelism().map_or(1, usize::from),
-    };
+    let mut asked = Asked { cases: 0, seed: 7816, threads: thread::available_parallelism().map_or(1, usize::from) };
     for pair in words.chunks(2) {
         match *pair {
             ["--cases", n] => asked.cases = n.parse().ok()?,
@@ -115,16 +118,17 @@ fn compare(asked: &Asked) -> bool {
 }
 
 fn record(path: &str) -> bool {
-    let (mut file, mut inputs) = (File::default(), Inputs::of(record::SEED));
-    for record in RECORDED {
-        record(&mut file, &mut inputs);
+    let (mut tally, mut inputs) = (Tally::default(), Inputs::recorded(record::SEED));
+    tally.file = Some(File::default());
+    for (turns, job) in RECORDED {
+        (0..turns).for_each(|_| job(&mut tally, &mut inputs));
     }
-    let bytes = file.bytes();
+    let bytes = tally.file.take().unwrap_or_default().bytes();
     match fs::write(path, &bytes) {
         Ok(()) => println!("{} bytes", bytes.len()),
         Err(ref error) => eprintln!("{path}: {error}"),
     }
-    fs::read(path).ok() != Some(bytes)
+    tally.mismatches() > 0 || fs::read(path).ok() != Some(bytes)
 }
 
 fn time(emulated: bool) -> bool {

@@ -3,7 +3,6 @@
 
 mod chains;
 mod edges;
-mod recorded;
 mod rust;
 mod steps;
 mod timed;
@@ -12,7 +11,6 @@ use std::hint::black_box;
 
 use gorvisclen::{EXPECTED_MAX, SPLIT_NUMBERS};
 
-pub use self::recorded::record;
 use self::steps::{parts, step};
 pub use self::timed::time;
 use crate::builder::Asked;
@@ -131,9 +129,7 @@ fn every_small_step(tally: &mut Tally, inputs: &mut Inputs) {
 /// Every class byte, and every mode byte.
 fn every_class_and_mode(tally: &mut Tally, inputs: &mut Inputs) {
     let row = inputs.bytes(300);
-    for (byte, n, available) in
-        triples(0..=u8::MAX, [0, 1, 5, 255, 256, 300], [9, 10, 12, 100, 261, 400])
-    {
+    for (byte, n, available) in triples(0..=u8::MAX, [0, 1, 5, 255, 256, 300], [9, 10, 12, 100, 261, 400]) {
         let le = some_expected(inputs);
         let header = [byte, byte ^ 0x55, byte.wrapping_add(1), 0];
         for mode in [0, 1, 2, byte] {
@@ -230,11 +226,9 @@ fn every_buffer(tally: &mut Tally, inputs: &mut Inputs) {
 /// Chains that are not made: 3, 13, and 14 for every buffer under 10.
 fn not_made(tally: &mut Tally, inputs: &mut Inputs) {
     let row = inputs.bytes(131_072);
-    for (n, available, header) in triples(
-        lengths().chain([65_791, 65_792, 131_072]),
-        (0..=10).chain([261]),
-        [HEADERS[0], HEADERS[5], HEADERS[6]],
-    ) {
+    for (n, available, header) in
+        triples(lengths().chain([65_791, 65_792, 131_072]), (0..=10).chain([261]), [HEADERS[0], HEADERS[5], HEADERS[6]])
+    {
         for le in [0, 1, 257] {
             if n > 300 && available == 10 {
                 continue;

@@ -7,6 +7,7 @@ use std::sync::atomic::{AtomicU64, Ordering};
 use gorvisclen::{Refused, Reply};
 
 use crate::lent::Outcome;
+use crate::record::File;
 
 /// The program stops at this many mismatches, in all threads together.
 const MOST: u64 = 20;
@@ -34,6 +35,8 @@ struct Count {
 pub struct Tally {
     counts: BTreeMap<&'static str, Count>,
     calls: u64,
+    /// Where calls are recorded, if they are.
+    pub file: Option<File>,
 }
 
 /// The number that an exported function replies.

@@ -116,26 +116,14 @@ impl Lines {
         }
     }
 
-    /// Times calls beside the Rust's, each after a check.
-    pub fn calls<const N: usize>(&mut self, name: &str, of: &[impl Call<N>], size: Size) {
+    /// Times calls beside the Rust's, each after a check. A function of the Rust that has a limit is not laid into the loop anyway.
+    pub fn calls<const N: usize>(&mut self, name: &str, most: f64, of: &[impl Call<N>], size: Size) {
         let size = checked(name, of, size);
-        let rust = || round(size, of, |call, to, out| by_rust(call, to, out));
         let ours = || round(size, of, ours);
-        self.time(name, NO_LIMIT, rust, ours);
-    }
-
-    /// The same, with a limit, for functions of the Rust that are not laid into the loop anyway.
-    pub fn limited<const N: usize>(
-        &mut self,
-        name: &str,
-        most: f64,
-        of: &[impl Call<N>],
-        size: Size,
-    ) {
-        let size = checked(name, of, size);
-        let rust = || round(size, of, |call, to, out| laid_in(call, to, out));
-        let ours = || round(size, of, ours);
-        self.time(name, most, rust, ours);
+        match most {
+            NO_LIMIT => self.time(name, most, || round(size, of, |call, to, out| by_rust(call, to, out)), ours),
+            _ => self.time(name, most, || round(size, of, |call, to, out| laid_in(call, to, out)), ours),
+        }
     }
 
     /// Times two sides that are not described as one call, each with what it is called on; what they leave is checked.

@@ -7,21 +7,17 @@ mod front;
 mod lookup;
 mod model;
 mod names;
-mod recorded;
 mod records;
 mod timed;
 mod writing;
 
-use gorvisclen::{
-    CRATE_READING, LEN_NUMBERS, LOOKUP_NUMBERS, OBJECT_NUMBERS, STANDARD_READING, TAG_NUMBERS,
-};
+use gorvisclen::{CRATE_READING, LEN_NUMBERS, LOOKUP_NUMBERS, OBJECT_NUMBERS, STANDARD_READING, TAG_NUMBERS};
 
 use self::front::{Front, Len, Object, Tag};
 use self::lookup::{find, value, Lookup};
-pub use self::recorded::record;
 use self::records::{length_forms, long_record, some_paths, some_record, Record};
 pub use self::timed::time;
-pub use self::writing::random as random_writing;
+pub use self::writing::{every_boundary as every_written_boundary, random as random_writing};
 use crate::call::Call;
 use crate::inputs::Inputs;
 use crate::loops::{pairs, triples};
@@ -68,7 +64,7 @@ fn every_short_string(tally: &mut Tally) {
 
 /// Objects with values of every length to 300 and around the most, each form of the length; the value whole, a byte short, and
 /// with a byte behind it.
-fn every_length(tally: &mut Tally, inputs: &mut Inputs) {
+pub fn every_length(tally: &mut Tally, inputs: &mut Inputs) {
     for n in (0..=300).chain(65_533..=65_535) {
         for form in length_forms(n) {
             let header = [&[0x5F, 0x24], &form[..]].concat();
@@ -162,6 +158,16 @@ fn long(tally: &mut Tally, inputs: &mut Inputs) {
         for cut in [1, 3, 4, 7, 1 + inputs.below(len)] {
             every_lookup(tally, inputs, &record.bytes[..len - cut], top);
             every_lookup(tally, inputs, &record.bytes[..len - cut], inside);
+        }
+    }
+}
+
+/// Many small objects of one tag, and the due date behind them.
+pub fn behind_many(tally: &mut Tally, inputs: &mut Inputs) {
+    for (len, byte) in [(7, 5), (700, 5), (65_002, 5), (64_999, 2), (65_530, 0), (601, 5)] {
+        let record = [&vec![byte; len][..], &[0x5F, 0x24, 0x03, 0x26, 0x10, 0x09]].concat();
+        for path in [&[0x5F24][..], &[byte.into()], &[0x5F25], &[0x26], &[]] {
+            every_lookup(tally, inputs, &record, path);
         }
     }
 }

@@ -34,18 +34,16 @@ mod tlv;
 
 pub use aid::{aid, aid_matches, aid_part, aid_whole, AID_NUMBERS};
 pub use builder::{
-    builder_eq, force_extended, required_len, serialize_into, EXPECTED_MAX, EXTENDED_FORCED,
-    EXTENDED_SUPPORTED, SHORT_ONLY,
+    builder_eq, force_extended, required_len, serialize_into, EXPECTED_MAX, EXTENDED_FORCED, EXTENDED_SUPPORTED,
+    SHORT_ONLY,
 };
 pub use class::{class, class_as_chained, class_constants, range, CLASS_CONSTANTS, CLASS_NUMBERS};
-pub use command::{
-    command, command_data, command_extend, command_owned, COMMAND_NUMBERS, OWNED_NUMBERS,
-};
+pub use command::{command, command_data, command_extend, command_owned, COMMAND_NUMBERS, OWNED_NUMBERS};
 pub use reassembler::{joined_data, Reassembler, JOIN_NUMBERS, STATE_NUMBERS};
 pub use splitter::{should_split, Pieces, BUFFER_LEN, PIECE_NUMBERS, SPLIT_NUMBERS};
 pub use tlv::{
-    get_data_object, put_data_object, take_data_object, take_len, take_tag, value, LEN_NUMBERS,
-    LOOKUP_NUMBERS, OBJECT_NUMBERS, TAG_NUMBERS,
+    get_data_object, put_data_object, take_data_object, take_len, take_tag, value, LEN_NUMBERS, LOOKUP_NUMBERS,
+    OBJECT_NUMBERS, TAG_NUMBERS,
 };
 
 /// A refusal's number.
@@ -63,7 +61,7 @@ pub const CRATE_READING: u8 = 0;
 /// The reading of them that the standard has; every other number but 0 names it too.
 pub const STANDARD_READING: u8 = 1;
 
-/// What an exported function replies, called by its name with arguments of these kinds: a number of a type; a `header` or a `tag` as
+/// What an exported function replies, called by its name without the prefix, with arguments of these kinds: a number of a type; a `header` or a `tag` as
 /// its bytes; `bytes` and `tags` to read, `room` and `numbers` to write, each as its pointer and its length.
 macro_rules! call {
     ($name:ident $(, $kind:ident $arg:expr)*) => {
@@ -71,10 +69,11 @@ macro_rules! call {
     };
     (@ $name:ident [$($type:ty,)*] [$($value:expr,)*]) => {{
         extern "C" {
-            fn $name($(_: $type),*) -> u8;
+            #[link_name = concat!("gorvisclen_", stringify!($name))]
+            fn exported($(_: $type),*) -> u8;
         }
         // The pointers and lengths are those of slices that are borrowed for the call, which keeps none of them.
-        unsafe { $name($($value),*) }
+        unsafe { exported($($value),*) }
     }};
     (@ $name:ident [$($t:tt)*] [$($v:tt)*] header $arg:expr, $($more:tt)*) => {
         crate::call!(@ $name [$($t)* u8, u8, u8, u8,] [$($v)* $arg[0], $arg[1], $arg[2], $arg[3],] $($more)*)
@@ -99,6 +98,44 @@ macro_rules! call {
     };
 }
 use call;
+
+/// The type of an argument of a kind.
+macro_rules! kind {
+    (header) => {
+        [u8; 4]
+    };
+    (tag) => {
+        [u8; 3]
+    };
+    (bytes) => {
+        &[u8]
+    };
+    (tags) => {
+        &[u32]
+    };
+    (room) => {
+        &mut [u8]
+    };
+    (numbers) => {
+        &mut [u64]
+    };
+    ($type:ident) => {
+        $type
+    };
+}
+use kind;
+
+/// Exported functions by their names and arguments, each as a function of its own.
+macro_rules! exported {
+    ($($(#[$about:meta])* fn $name:ident($($arg:ident: $kind:ident),*);)*) => {$(
+        $(#[$about])*
+        #[inline]
+        pub fn $name($($arg: crate::kind!($kind)),*) -> crate::Reply {
+            crate::reply(crate::call!($name $(, $kind $arg)*))
+        }
+    )*};
+}
+use exported;
 
 #[inline]
 fn reply(number: u8) -> Reply {

@@ -1,6 +1,6 @@
 //! Pieces of chained commands joined in a lent room. The record of a chain passes as numbers, which the caller keeps.
 
-use crate::{call, reply, Reply};
+use crate::{call, exported, reply, Reply};
 
 /// How many numbers `Reassembler::join` writes.
 pub const JOIN_NUMBERS: usize = 14;
@@ -38,21 +38,20 @@ impl Reassembler {
     #[inline]
     pub fn join(self, piece: &[u8], room: &mut [u8], out: &mut [u64]) -> Reply {
         reply(call!(
-            gorvisclen_join, u8 self.opened, header self.header, usize self.held, bytes piece, room room, numbers out
+            join, u8 self.opened, header self.header, usize self.held, bytes piece, room room, numbers out
         ))
     }
 
     /// Forgets an open chain: the record after it, which is closed. It always succeeds.
     #[inline]
     pub fn reset(self) -> Reassembler {
-        let opened = call!(gorvisclen_reset, u8 self.opened, header self.header, usize self.held);
+        let opened = call!(reset, u8 self.opened, header self.header, usize self.held);
         Reassembler { opened, ..Reassembler::CLOSED }
     }
 }
 
-/// Copies the data of a joined command, the first `len` bytes of `room`, or all where it has fewer, to the front of `to`. Writes
-/// one number: how many they are. Refusal: 16.
-#[inline]
-pub fn joined_data(len: usize, room: &[u8], to: &mut [u8], out: &mut [u64]) -> Reply {
-    reply(call!(gorvisclen_joined_data, usize len, bytes room, room to, numbers out))
+exported! {
+    /// Copies the data of a joined command, the first `len` bytes of `room`, or all where it has fewer, to the front of `to`. Writes
+    /// one number: how many they are. Refusal: 16.
+    fn joined_data(len: usize, room: bytes, to: room, out: numbers);
 }

@@ -1,6 +1,6 @@
 //! Commands cut.
 
-use crate::{call, reply, Refused, Reply};
+use crate::{call, exported, reply, Refused, Reply};
 
 /// How many numbers `should_split` writes.
 pub const SPLIT_NUMBERS: usize = 6;
@@ -11,22 +11,12 @@ pub const PIECE_NUMBERS: usize = 5;
 /// The buffer of a chain by default: four header bytes, Lc, 255 data bytes, Le.
 pub const BUFFER_LEN: usize = 261;
 
-/// Whether a command to build fits a buffer of `available` bytes, in 6 numbers: 1 where it is split, then how many data bytes the
-/// first part takes, class byte and expected length of the first part (65,536 for Max), and those of the rest; instruction byte, P1,
-/// P2 and mode are the command's in both. Where it is not split they are zeros.
-/// Refusals: 3; 13; 14 where `available` is under 4, or where no data fit; 16.
-#[inline]
-pub fn should_split(
-    header: [u8; 4],
-    le: u32,
-    mode: u8,
-    data: &[u8],
-    available: usize,
-    out: &mut [u64],
-) -> Reply {
-    reply(
-        call!(gorvisclen_should_split, header header, u32 le, u8 mode, bytes data, usize available, numbers out),
-    )
+exported! {
+    /// Whether a command to build fits a buffer of `available` bytes, in 6 numbers: 1 where it is split, then how many data bytes the
+    /// first part takes, class byte and expected length of the first part (65,536 for Max), and those of the rest; instruction byte, P1,
+    /// P2 and mode are the command's in both. Where it is not split they are zeros.
+    /// Refusals: 3; 13; 14 where `available` is under 4, or where no data fit; 16.
+    fn should_split(header: header, le: u32, mode: u8, data: bytes, available: usize, out: numbers);
 }
 
 /// A chain of pieces in the mode `SHORT_ONLY`, by numbers: the command's header, what it expects, the most bytes of a piece, the
@@ -43,14 +33,8 @@ pub struct Pieces {
 impl Pieces {
     /// A chain for a command with these data. Refusals: 3; 13; 14 where `available` is under 10.
     #[inline]
-    pub fn new_non_extended(
-        header: [u8; 4],
-        data: &[u8],
-        le: u16,
-        available: usize,
-    ) -> Result<Pieces, Refused> {
-        let made =
-            call!(gorvisclen_new_non_extended, header header, bytes data, u16 le, usize available);
+    pub fn new_non_extended(header: [u8; 4], data: &[u8], le: u16, available: usize) -> Result<Pieces, Refused> {
+        let made = call!(new_non_extended, header header, bytes data, u16 le, usize available);
         reply(made)?;
         Ok(Pieces { header, le, available, place: 0, done: false })
     }
@@ -63,7 +47,7 @@ impl Pieces {
     pub fn write_next(self, data: &[u8], buffer: &mut [u8], at: usize, out: &mut [u64]) -> Reply {
         let done = u8::from(self.done);
         reply(call!(
-            gorvisclen_write_next, header self.header, u16 self.le, usize self.available, usize self.place, u8 done, bytes data,
+            write_next, header self.header, u16 self.le, usize self.available, usize self.place, u8 done, bytes data,
             room buffer, usize at, numbers out
         ))
     }

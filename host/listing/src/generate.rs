@@ -98,7 +98,8 @@ fn of_length(len: usize, record: impl Fn(usize) -> Vec<u8>) -> Vec<u8> {
 }
 
 /// Document 01's example.
-const EXAMPLE: &[u8] = b"\x00\x02\x00\x04\x00\xA4\x04\x00\x00\x05\xFF\xB0\x00\x00\x00\x00\x01\x00\x06\x5F\x24\x03\x26\x10\x09";
+const EXAMPLE: &[u8] =
+    b"\x00\x02\x00\x04\x00\xA4\x04\x00\x00\x05\xFF\xB0\x00\x00\x00\x00\x01\x00\x06\x5F\x24\x03\x26\x10\x09";
 
 /// An input of one command.
 fn one(apdu: &[u8]) -> Vec<u8> {
@@ -134,8 +135,7 @@ fn edges_of_form() -> Vec<Vec<u8>> {
 
 /// Records that end too early, or hold no object; and several.
 fn edges_of_records() -> Vec<Vec<u8>> {
-    let several =
-        [vec![0x5F, 0x24, 0x00], vec![], vec![0x5F], vec![], vec![0xDF, 0x81, 0x01, 0x81, 0x00]];
+    let several = [vec![0x5F, 0x24, 0x00], vec![], vec![0x5F], vec![], vec![0xDF, 0x81, 0x01, 0x81, 0x00]];
     vec![
         only(&[]),
         only(&[0x00, 0x00]),
@@ -149,9 +149,8 @@ fn edges_of_records() -> Vec<Vec<u8>> {
 }
 
 /// A record of three objects, cut at every place.
-const OBJECTS: [u8; 16] = [
-    0x5A, 0x01, 0xAA, 0x5F, 0x24, 0x03, 0x26, 0x10, 0x09, 0xDF, 0x81, 0x01, 0x82, 0x00, 0x01, 0xBB,
-];
+const OBJECTS: [u8; 16] =
+    [0x5A, 0x01, 0xAA, 0x5F, 0x24, 0x03, 0x26, 0x10, 0x09, 0xDF, 0x81, 0x01, 0x82, 0x00, 0x01, 0xBB];
 
 /// What stands behind the header of a command, in every case and next to one.
 const BODIES: [&[u8]; 13] = [

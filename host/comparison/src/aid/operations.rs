@@ -5,6 +5,7 @@ use original::aid::{Aid, Category, FromSliceError};
 
 use crate::call::{call, Call, Given};
 use crate::lent::Hex;
+use crate::record::{Handed, Operation};
 
 /// What each number of an AID is.
 const NUMBERS: [&str; AID_NUMBERS] = [
@@ -81,8 +82,9 @@ impl<'a> Case<'a> {
 }
 
 impl Given for Case<'_> {
-    fn read(&self) -> Vec<u8> {
-        self.name.to_vec()
+    fn hand<'a>(&'a self, to: &mut Handed<'a>) {
+        self.name.hand(to);
+        self.truncated_len.hand(to);
     }
 }
 
@@ -94,6 +96,7 @@ pub fn make(case: Case<'_>) -> impl Call<AID_NUMBERS> + '_ {
         |case, _, out| gorvisclen::aid(&case.name, case.truncated_len, out),
         |case, _| Ok(of_aid(&case.made()?).into()),
     )
+    .recorded_as(Operation::Aid)
 }
 
 /// The AID of a name that is not to be truncated.
@@ -104,6 +107,7 @@ pub fn make_whole(name: &[u8]) -> impl Call<AID_NUMBERS> + '_ {
         |name, _, out| gorvisclen::aid_whole(name, out),
         |name, _| Ok(of_aid(&Aid::try_new(name).map_err(refusal)?).into()),
     )
+    .recorded_as(Operation::AidWhole)
 }
 
 /// A part of an AID by its number, of which every one above is the last.
@@ -121,15 +125,14 @@ pub fn part(case: Case<'_>, part: u8) -> impl Call<1> + '_ {
     call(
         (PARTS[usize::from(part.min(3))], &[]),
         (case, part),
-        |(case, part), to, out| {
-            gorvisclen::aid_part(&case.name, case.truncated_len, *part, to, out)
-        },
+        |(case, part), to, out| gorvisclen::aid_part(&case.name, case.truncated_len, *part, to, out),
         |(case, part), _| {
             let aid = case.made()?;
             let bytes = part_of(&aid, *part);
             Ok(bytes.map(|bytes| bytes.to_vec().into()).into())
         },
     )
+    .recorded_as(Operation::AidPart)
 }
 
 /// Whether an AID is selected by a name.
@@ -140,6 +143,7 @@ pub fn matches<'a>(case: Case<'a>, asked: &'a [u8]) -> impl Call<1> + 'a {
         |(case, asked), _, out| gorvisclen::aid_matches(&case.name, case.truncated_len, asked, out),
         |(case, asked), _| Ok([case.made()?.matches(asked).into()].into()),
     )
+    .recorded_as(Operation::AidMatches)
 }
 
 /// A registered AID.

@@ -44,12 +44,11 @@ pub fn time(lines: &mut Lines) {
     let size = Size::default();
     for (words, name, truncated_len) in SAMPLES {
         let of = [make(Case::of(name, truncated_len))];
-        lines.calls(&format!("aid {words}"), &of, size);
+        lines.calls(&format!("aid {words}"), NO_LIMIT, &of, size);
     }
     let case = Case::of(PIV, 9);
-    for (words, asked) in [("all of it", PIV), ("its truncated part", &PIV[..9]), ("another", OWN)]
-    {
-        lines.calls(&format!("aid matches, {words}"), &[matches(case, asked)], size);
+    for (words, asked) in [("all of it", PIV), ("its truncated part", &PIV[..9]), ("another", OWN)] {
+        lines.calls(&format!("aid matches, {words}"), NO_LIMIT, &[matches(case, asked)], size);
     }
     let (to, out, bytes) = (16, 1, 0);
     let size = Size { to, out, bytes };

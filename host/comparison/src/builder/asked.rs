@@ -12,6 +12,7 @@ use super::model;
 use crate::call::Given;
 use crate::lent::Hex;
 use crate::panics::unless_it_panics;
+use crate::record::Handed;
 
 /// One command to build.
 #[derive(Clone, Copy)]
@@ -33,8 +34,11 @@ impl fmt::Debug for Asked<'_> {
 }
 
 impl Given for Asked<'_> {
-    fn read(&self) -> Vec<u8> {
-        self.data.to_vec()
+    fn hand<'a>(&'a self, to: &mut Handed<'a>) {
+        self.header.hand(to);
+        to.number(self.le as usize);
+        self.mode.hand(to);
+        to.string(self.data);
     }
 }
 
@@ -92,8 +96,7 @@ impl<'a> Asked<'a> {
             SHORT_ONLY => {
                 // A chain takes no Max. It is asked for one here only where it panics.
                 let (le, long) = (self.le.min(65_535) as u16, Some(usize::MAX / 2));
-                let mut chain =
-                    CommandBuilder::new_non_extended(class, instruction, p1, p2, data, le, long);
+                let mut chain = CommandBuilder::new_non_extended(class, instruction, p1, p2, data, le, long);
                 let whole = chain.next().unwrap();
                 assert!(chain.next().is_none());
                 whole

@@ -72,8 +72,7 @@ const FORCED: [Row; 10] = [
 /// The bytes of commands in each mode.
 pub fn written(tally: &mut Tally) {
     let data = vec![0xAA; 65_535];
-    let modes: [(u8, &[Row]); 3] =
-        [(SHORT_ONLY, &SHORT), (EXTENDED_SUPPORTED, &SUPPORTED), (EXTENDED_FORCED, &FORCED)];
+    let modes: [(u8, &[Row]); 3] = [(SHORT_ONLY, &SHORT), (EXTENDED_SUPPORTED, &SUPPORTED), (EXTENDED_FORCED, &FORCED)];
     for (mode, rows) in modes {
         for &(n, expected, lc, le) in rows {
             let (at, command) = (2, [&HEADER, lc, &data[..n], le].concat());

@@ -9,6 +9,7 @@ use crate::call::{call, Call, Left};
 use crate::command::by_rust;
 use crate::lent::{bytes, numbers, Hex, Outcome};
 use crate::panics::unless_it_panics;
+use crate::record::Operation;
 use crate::tally::Tally;
 
 /// The names of an operation: where the Rust builds too, where it does not from outside, and where it panics.
@@ -16,17 +17,13 @@ macro_rules! names {
     ($operation:literal) => {
         [
             $operation,
-            concat!(
-                $operation,
-                ", short only with over 255 bytes or Max (held to a model of document 01)"
-            ),
+            concat!($operation, ", short only with over 255 bytes or Max (held to a model of document 01)"),
             concat!($operation, ", data above 65,535 bytes (the Rust panics)"),
         ]
     };
 }
 
-const PAST: &str =
-    "CommandBuilder::serialize_into, a place past the buffer's end (no Rust: held to a rule, 16)";
+const PAST: &str = "CommandBuilder::serialize_into, a place past the buffer's end (no Rust: held to a rule, 16)";
 const READ_BACK: &str =
     "CommandBuilder::serialize_into, then both readings (held to a rule: header, data and lowered Le come back)";
 
@@ -51,15 +48,14 @@ pub fn length(asked: Asked<'_>) -> impl Call<1> + '_ {
     call(
         (asked.name(names!("CommandBuilder::required_len")), &[]),
         asked,
-        |&Asked { header, le, mode, data }, _, out| {
-            gorvisclen::required_len(header, le, mode, data, out)
-        },
+        |&Asked { header, le, mode, data }, _, out| gorvisclen::required_len(header, le, mode, data, out),
         |asked, _| Ok([asked.made()?.required_len() as u64].into()),
     )
     .held_to(|asked, _| {
         let len = asked.made()?.required_len();
         Ok([asked.same(len, asked.len_in(asked.mode)) as u64].into())
     })
+    .recorded_as(Operation::RequiredLen)
 }
 
 /// The length of a command once extended length is forced; 15 where the Rust panics.
@@ -67,9 +63,7 @@ pub fn force(asked: Asked<'_>) -> impl Call<1> + '_ {
     call(
         (asked.name(names!("CommandBuilder::force_extended")), &[]),
         asked,
-        |&Asked { header, le, mode, data }, _, out| {
-            gorvisclen::force_extended(header, le, mode, data, out)
-        },
+        |&Asked { header, le, mode, data }, _, out| gorvisclen::force_extended(header, le, mode, data, out),
         |asked, _| Ok([asked.made()?.force_extended().required_len() as u64].into()),
     )
     .held_to(|asked, _| {
@@ -78,6 +72,7 @@ pub fn force(asked: Asked<'_>) -> impl Call<1> + '_ {
         let model = (asked.mode != SHORT_ONLY).then(|| asked.len_in(2));
         Ok([asked.same(forced, model).ok_or(15)? as u64].into())
     })
+    .recorded_as(Operation::ForceExtended)
 }
 
 /// Whether it equals, by the model, for a command that the Rust reads.
@@ -94,9 +89,7 @@ pub fn equals<'a>(asked: Asked<'a>, apdu: &'a [u8]) -> impl Call<1> + 'a {
     call(
         (asked.name(names!("CommandBuilder == CommandView")), &[]),
         (asked, Hex(apdu)),
-        |&(Asked { header, le, mode, data }, apdu), _, out| {
-            gorvisclen::builder_eq(header, le, mode, data, &apdu, out)
-        },
+        |&(Asked { header, le, mode, data }, apdu), _, out| gorvisclen::builder_eq(header, le, mode, data, &apdu, out),
         |(asked, apdu), _| {
             let builder = asked.made()?;
             let view = CommandView::try_from(apdu.0).map_err(|_| 5)?;
@@ -113,6 +106,7 @@ pub fn equals<'a>(asked: Asked<'a>, apdu: &'a [u8]) -> impl Call<1> + 'a {
         let [equal, _] = asked.same([builder == view, view == builder], [model; 2]);
         Ok([equal.into()].into())
     })
+    .recorded_as(Operation::BuilderEq)
 }
 
 /// A command written into a buffer from a place. The Rust writes to as much as there is behind the place.
@@ -140,6 +134,7 @@ pub fn write(asked: Asked<'_>, at: usize) -> impl Call<1> + '_ {
         let past = *at > to_len && asked.data.len() <= 65_535;
         past.then_some((PAST, &[]))
     })
+    .recorded_as(Operation::SerializeInto)
 }
 
 /// Holds what is written from a place to be read again, in both readings.

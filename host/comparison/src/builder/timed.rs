@@ -46,9 +46,7 @@ fn write_built(builder: &Builder, buffer: &mut [u8], out: &mut [u64]) -> u8 {
 }
 
 fn writing(lines: &mut Lines) {
-    for ((mode, of_mode), (n, words), (le, with)) in
-        triples(MODES, LENGTHS, [(0, ""), (256, ", Le")])
-    {
+    for ((mode, of_mode), (n, words), (le, with)) in triples(MODES, LENGTHS, [(0, ""), (256, ", Le")]) {
         let data = vec![0xAA; n];
         let asked = Asked::new(HEADER, le, mode, &data);
         let size = Size { to: LONGEST, out: 1, bytes: n };
@@ -87,9 +85,7 @@ fn forced_len(asked: &Asked, _: &mut [u8], out: &mut [u64]) -> u8 {
 
 #[inline(never)]
 fn equal((asked, apdu): &(Asked, &[u8]), _: &mut [u8], out: &mut [u64]) -> u8 {
-    of_built(asked, out, |builder: Builder| {
-        CommandView::try_from(*apdu).ok().map(|view| (builder == view).into())
-    })
+    of_built(asked, out, |builder: Builder| CommandView::try_from(*apdu).ok().map(|view| (builder == view).into()))
 }
 
 const SIZE: Size = Size { to: 0, out: 1, bytes: 0 };

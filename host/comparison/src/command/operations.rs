@@ -7,6 +7,7 @@ use super::parsed::{by_rust, of_owned, refusal, Parsed};
 use super::standard::{by_table, NO_CASE, STANDARD_DATA, STANDARD_OWNED};
 use crate::call::{call, Answer, Call, Given, Left};
 use crate::lent::{bytes, Hex};
+use crate::record::{Handed, Operation};
 use crate::tally::{Names, Tally};
 
 /// What each number of a command is.
@@ -33,8 +34,7 @@ const OF_OWNED: [&str; OWNED_NUMBERS] = [
 ];
 
 const EXTENDED: Names = ("Command::extend_from_command_view", &OF_OWNED);
-const PAST: &str =
-    "Command::extend_from_command_view, held length past the room (no Rust: held to a rule, 18)";
+const PAST: &str = "Command::extend_from_command_view, held length past the room (no Rust: held to a rule, 18)";
 
 /// One command in one reading.
 #[derive(Clone, Copy, Debug)]
@@ -56,14 +56,20 @@ impl<'a> Asked<'a> {
         }
     }
 
+    /// An operation where it is the Rust's.
+    fn of_rust(&self, operation: Operation) -> Option<Operation> {
+        (self.reading == CRATE_READING).then_some(operation)
+    }
+
     pub fn data_len(&self) -> usize {
         self.parsed().map_or(0, |parsed| parsed.data.len())
     }
 }
 
 impl Given for Asked<'_> {
-    fn read(&self) -> Vec<u8> {
-        self.apdu.to_vec()
+    fn hand<'a>(&'a self, to: &mut Handed<'a>) {
+        self.reading.hand(to);
+        self.apdu.hand(to);
     }
 }
 
@@ -80,6 +86,7 @@ pub fn parse(asked: Asked<'_>) -> impl Call<COMMAND_NUMBERS> + '_ {
         |asked, _| Ok(by_rust(&asked.apdu)?.numbers.into()),
     )
     .held_to(|asked, _| Ok(asked.parsed()?.numbers.into()))
+    .recorded_as(asked.of_rust(Operation::Command))
 }
 
 /// The data of a command, copied.
@@ -95,6 +102,7 @@ pub fn data(asked: Asked<'_>) -> impl Call<1> + '_ {
         |asked, _| Ok(Some(by_rust(&asked.apdu)?.data.into()).into()),
     )
     .held_to(|asked, _| Ok(Some(asked.parsed()?.data.into()).into()))
+    .recorded_as(asked.of_rust(Operation::CommandData))
 }
 
 /// An owned copy of a command. In the crate's reading, `to` is as long as one of the rooms.
@@ -112,6 +120,7 @@ pub fn own(asked: Asked<'_>) -> impl Call<OWNED_NUMBERS> + '_ {
             _ => own_by_table(&asked.apdu, to_len),
         },
     )
+    .recorded_as(asked.of_rust(Operation::CommandOwned))
 }
 
 fn own_by_table(apdu: &[u8], room_len: usize) -> Answer<'_, OWNED_NUMBERS> {
@@ -124,8 +133,9 @@ fn own_by_table(apdu: &[u8], room_len: usize) -> Answer<'_, OWNED_NUMBERS> {
     Ok(Left::written(numbers, 0, parsed.data))
 }
 
-/// An owned command that holds so many bytes, extended by another. Where they are more than the room has, a rule says what is left.
-pub fn extend(len: usize, apdu: &[u8]) -> impl Call<OWNED_NUMBERS> + '_ {
+/// An owned command that holds so many bytes, extended by another. Where they are more than the room has, a rule says what is left, and
+/// else an answer of the Rust's.
+pub fn extend(len: usize, apdu: &[u8], past: bool) -> impl Call<OWNED_NUMBERS> + '_ {
     call(
         (PAST, &[]),
         (len, Hex(apdu)),
@@ -138,23 +148,13 @@ pub fn extend(len: usize, apdu: &[u8]) -> impl Call<OWNED_NUMBERS> + '_ {
             Ok(Left { refused, ..left })
         },
     )
-}
-
-/// The same where these bytes are held, at most as many as the room has, which is one of the rooms.
-pub fn extend_held_by<'a>(front: &'a [u8], apdu: &'a [u8]) -> impl Call<OWNED_NUMBERS> + 'a {
-    call(
-        EXTENDED,
-        (Hex(front), Hex(apdu)),
-        |(front, apdu), to, out| gorvisclen::command_extend(front.len(), to, apdu, out),
-        |(front, apdu), to_len| (Room::with(to_len).extends)(front, apdu),
-    )
+    .recorded_as((!past).then_some(Operation::CommandExtend))
 }
 
 /// A room of a length that is a capacity of the Rust's `Command`, for what that type does.
 pub struct Room {
     pub len: usize,
     owned: fn(&[u8]) -> Answer<OWNED_NUMBERS>,
-    extends: fn(&[u8], &[u8]) -> Answer<'static, OWNED_NUMBERS>,
     pub extended: fn(&mut Tally, usize, &[Piece]),
 }
 
@@ -190,10 +190,6 @@ impl Room {
                 let data = command.data().to_vec();
                 Ok(Left::written(of_owned(&command), 0, data))
             },
-            extends: |front, apdu| {
-                let view = CommandView::try_from(apdu).map_err(refusal)?;
-                Ok(extend_held(&mut holding::<S>(front), view, apdu))
-            },
             extended: extended::<S>,
         }
     }
@@ -223,17 +219,14 @@ fn extended<const S: usize>(tally: &mut Tally, len: usize, pieces: &[Piece]) {
             Ok(_) if out_len < OWNED_NUMBERS => Err(16),
             Ok(view) => Ok(extend_held(&mut held, view, apdu)),
         };
-        extend(len, apdu).held(tally, EXTENDED, &answer, &room, out_len);
+        extend(len, apdu, false).held(tally, EXTENDED, &answer, &room, out_len);
         room.part()[..held.data().len()].copy_from_slice(held.data());
     }
 }
 
 /// Extends it by a view, and where the rooms are short, a copy of it by an owned command, which has to do the same.
-fn extend_held<const S: usize>(
-    held: &mut Command<S>,
-    view: CommandView,
-    apdu: &[u8],
-) -> Left<'static, OWNED_NUMBERS> {
+fn extend_held<const S: usize>(held: &mut Command<S>, view: CommandView, apdu: &[u8]) -> Left<'static, OWNED_NUMBERS> {
+    let before = held.data().clone();
     let by_owned = Command::<600>::try_from(apdu).ok().filter(|_| S <= 600);
     let other = by_owned.map(|owned| (owned, held.clone()));
     let done = held.extend_from_command_view(view);
@@ -241,6 +234,7 @@ fn extend_held<const S: usize>(
         let same = other.extend_from_command(&owned) == done && other == *held;
         assert!(same, "the Rust's extensions part: {:?}", Hex(apdu));
     }
-    let left = Left::written(of_owned(held), 0, held.data().to_vec());
+    let left = Left::written(of_owned(held), before.len(), held.data()[before.len()..].to_vec());
+    assert!(held.data().starts_with(&before), "the Rust's extension changes what was held");
     Left { refused: done.is_err().then_some(18), ..left }
 }

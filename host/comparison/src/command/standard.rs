@@ -61,11 +61,7 @@ pub fn by_table(apdu: &[u8]) -> Result<Parsed<'_>, u8> {
             let lengths = [4 + lc, nc, ne].map(|n| n as u64);
             let extended = lc > 1 || le > 1;
             let numbers = [&header[..], &lengths, &[extended.into()]].concat();
-            return Ok(Parsed {
-                operation,
-                numbers: numbers.try_into().unwrap(),
-                data: &body[lc..lc + nc],
-            });
+            return Ok(Parsed { operation, numbers: numbers.try_into().unwrap(), data: &body[lc..lc + nc] });
         }
     }
     Err(match *body {

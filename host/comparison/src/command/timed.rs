@@ -47,9 +47,9 @@ fn parsing(lines: &mut Lines) {
         let of_kind = || samples.iter().filter(|sample| sample.0 == kind);
         let one = |apdu| parse(Asked::of(CRATE_READING, apdu));
         let all: Vec<_> = of_kind().map(|(_, _, apdu)| one(apdu)).collect();
-        lines.limited(kind, MOST, &all, Size::default());
+        lines.calls(kind, MOST, &all, Size::default());
         for (_, name, apdu) in of_kind() {
-            lines.limited(&format!("  {name}"), MOST, &[one(apdu)], Size::default());
+            lines.calls(&format!("  {name}"), MOST, &[one(apdu)], Size::default());
         }
     }
 }

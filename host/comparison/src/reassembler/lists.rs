@@ -88,13 +88,7 @@ struct Run {
 
 impl Run {
     /// Joins a piece, which has to be answered so. Both rooms go on from piece to piece: a copy of them for each would take long.
-    fn join(
-        &mut self,
-        tally: &mut Tally,
-        name: &'static str,
-        piece: &[u8],
-        demanded: Answer<JOIN_NUMBERS>,
-    ) {
+    fn join(&mut self, tally: &mut Tally, name: &'static str, piece: &[u8], demanded: Answer<JOIN_NUMBERS>) {
         let record = self.record;
         let [mut told, mut out] = [0; 2].map(|_| numbers(JOIN_NUMBERS));
         let reply = leave(&demanded, self.demanded.part(), told.part());
@@ -200,8 +194,7 @@ pub fn compare(tally: &mut Tally, inputs: &mut Inputs, turns: Range<usize>) {
 /// The longest data, a byte in each piece and in the longest pieces.
 pub fn longest(tally: &mut Tally, inputs: &mut Inputs) {
     for (available, le) in [(10, 1), (10, 0), (BUFFER_LEN, 256), (BUFFER_LEN, 0)] {
-        let command =
-            Command { header: [0x80, 0xDB, 0x3F, 0xFF], le, data: inputs.bytes(65_535), available };
+        let command = Command { header: [0x80, 0xDB, 0x3F, 0xFF], le, data: inputs.bytes(65_535), available };
         run(tally, inputs, &[command], le.into(), 1);
     }
 }

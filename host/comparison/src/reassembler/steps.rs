@@ -11,8 +11,7 @@ const MORE: &str = "Reassembler::join, more (no Rust: held to a model)";
 const SINGLE: &str = "Reassembler::join, the command of a single piece (no Rust: held to a model)";
 const SEVERAL: &str = "Reassembler::join, the command of several pieces (no Rust: held to a model)";
 const REFUSED: &str = "Reassembler::join, refused (no Rust: held to a model)";
-const NO_RECORD: &str =
-    "Reassembler::join, an open record of class FF (no Rust: held to a model, 3)";
+const NO_RECORD: &str = "Reassembler::join, an open record of class FF (no Rust: held to a model, 3)";
 
 impl Given for Reassembler {}
 
@@ -37,13 +36,7 @@ pub fn join(record: Reassembler, piece: &[u8]) -> impl Call<JOIN_NUMBERS> + '_ {
 }
 
 /// Compares a piece in a room, and gives the record after it. The room is as it has to be after it.
-pub fn join_in(
-    tally: &mut Tally,
-    record: Reassembler,
-    piece: &[u8],
-    room: &mut Lent<u8>,
-    len: usize,
-) -> Reassembler {
+pub fn join_in(tally: &mut Tally, record: Reassembler, piece: &[u8], room: &mut Lent<u8>, len: usize) -> Reassembler {
     let call = join(record, piece);
     let answer = call.theirs(room.len());
     call.held(tally, call.names(room.len(), &answer), &answer, room, len);

@@ -5,21 +5,19 @@ use gorvisclen::{Pieces, PIECE_NUMBERS};
 use super::rust;
 use crate::call::{call, Call, Given, Left};
 use crate::lent::{bytes, Hex};
+use crate::record::{Handed, Operation};
 use crate::tally::Tally;
 
 const NEW: &str = "CommandBuilder::new_non_extended";
-const NEW_TOO_LONG: &str =
-    "CommandBuilder::new_non_extended, data above 65,535 bytes (the Rust panics: 13)";
+const NEW_TOO_LONG: &str = "CommandBuilder::new_non_extended, data above 65,535 bytes (the Rust panics: 13)";
 const NEW_SMALL: &str =
     "CommandBuilder::new_non_extended, a buffer under 10 (held to document 01, 14; the Rust may return)";
 const NEXT: &str = "ChainedCommandIterator::next, written into a buffer";
-const NEXT_AT: &str =
-    "ChainedCommandIterator::next, written, of a chain at any place with any expected length";
+const NEXT_AT: &str = "ChainedCommandIterator::next, written, of a chain at any place with any expected length";
 const NEXT_SMALL: &str =
     "ChainedCommandIterator::next, written, a buffer under 10 (held to document 01, 14; the Rust may return)";
 const NONE_LEFT: &str = "ChainedCommandIterator::next, none left";
-const DONE: &str =
-    "ChainedCommandIterator::next, none left, whatever else is said (held to a rule)";
+const DONE: &str = "ChainedCommandIterator::next, none left, whatever else is said (held to a rule)";
 
 /// A chain to cut, as a host has it.
 #[derive(Clone, Copy, Debug)]
@@ -28,8 +26,19 @@ pub struct Asked<'a> {
     pub data: Hex<'a, u8>,
 }
 
-/// The data are long: they are not compared.
-impl Given for Asked<'_> {}
+impl Given for Asked<'_> {
+    fn hand<'a>(&'a self, to: &mut Handed<'a>) {
+        self.chain.header.hand(to);
+        to.number(self.chain.le.into());
+        self.chain.available.hand(to);
+        to.string(self.data.0);
+    }
+
+    /// The data are long: they are not compared.
+    fn read(&self) -> Vec<u8> {
+        Vec::new()
+    }
+}
 
 /// A chain made.
 pub fn new(asked: Asked<'_>) -> impl Call<0> + '_ {
@@ -49,6 +58,7 @@ pub fn new(asked: Asked<'_>) -> impl Call<0> + '_ {
         },
         |asked, _| asked.of_rust().map(|_| [].into()),
     )
+    .recorded_as(Operation::NewNonExtended)
 }
 
 /// What is left where this is the piece, or where none is left.
@@ -68,9 +78,9 @@ pub fn next(asked: Asked<'_>, at: usize) -> impl Call<PIECE_NUMBERS> + '_ {
     };
     call(
         (name, &[]),
-        (asked, at),
-        |&(Asked { chain, data }, at), to, out| chain.write_next(&data, to, at, out),
-        |&(asked, at), _| {
+        (asked, [asked.chain.place, asked.chain.done.into(), at]),
+        |&(Asked { chain, data }, [.., at]), to, out| chain.write_next(&data, to, at, out),
+        |&(asked, [.., at]), _| {
             let Pieces { header, le, available, place, done } = asked.chain;
             if done {
                 return Ok(left(None, at));
@@ -82,6 +92,7 @@ pub fn next(asked: Asked<'_>, at: usize) -> impl Call<PIECE_NUMBERS> + '_ {
             Ok(left(chain.next(), at))
         },
     )
+    .recorded_as(Operation::WriteNext)
 }
 
 impl<'a> Asked<'a> {
@@ -119,12 +130,7 @@ impl<'a> Asked<'a> {
             assert!(piece.0.len() <= self.chain.available);
             let exact = before + piece.0.len();
             if turn % short == short - 1 {
-                for into in [
-                    (exact - 1, before, 5),
-                    (exact, before + 1, 6),
-                    (exact, before, 4),
-                    (exact, before, 5),
-                ] {
+                for into in [(exact - 1, before, 5), (exact, before + 1, 6), (exact, before, 4), (exact, before, 5)] {
                     held(asked, Some(piece.clone()), into);
                 }
             }

@@ -63,9 +63,7 @@ pub fn steps(tally: &mut Tally) {
         let asked = Asked::new(header, le, mode, &data[..n]);
         step(asked, available).written(tally, PAPER, &Ok(answer.into()), 0);
     }
-    for (mode, (n, available, answer)) in
-        pairs(0..3, [(0, 3, Err(14)), (0, 4, Ok([0; 6])), (1, 4, Err(14))])
-    {
+    for (mode, (n, available, answer)) in pairs(0..3, [(0, 3, Err(14)), (0, 4, Ok([0; 6])), (1, 4, Err(14))]) {
         let asked = Asked::new(HEADER, 1, mode, &data[..n]);
         let answer = answer.map(|numbers| numbers.into());
         step(asked, available).written(tally, PAPER, &answer, 0);

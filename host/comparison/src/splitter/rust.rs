@@ -54,8 +54,7 @@ impl<'a> Chain<'a> {
         // The default buffer is not named.
         let buffer_len = (available != BUFFER_LEN).then_some(available);
         let len = data.len();
-        let new =
-            || CommandBuilder::new_non_extended(class, instruction, p1, p2, data, le, buffer_len);
+        let new = || CommandBuilder::new_non_extended(class, instruction, p1, p2, data, le, buffer_len);
         let state = match len {
             0..=65_535 => new(),
             _ => unless_it_panics(new).map_or(Err(13), |_| panic!("no panic for {len} bytes"))?,
@@ -79,12 +78,7 @@ impl<'a> Chain<'a> {
     }
 
     /// A chain in any state: it has come to a place of the data, and expects `le`.
-    pub fn at(
-        header: [u8; 4],
-        data: &'a [u8],
-        (le, place): (u16, usize),
-        available: usize,
-    ) -> Result<Self, u8> {
+    pub fn at(header: [u8; 4], data: &'a [u8], (le, place): (u16, usize), available: usize) -> Result<Self, u8> {
         // The class, and the length of all the data.
         let Chain { len, .. } = Chain::new(header, data, le, available)?;
         let rest = &data[place.min(len)..];

@@ -6,6 +6,7 @@ use super::rust;
 use crate::builder::Asked;
 use crate::call::{call, Call};
 use crate::lent::{bytes, numbers, Outcome};
+use crate::record::Operation;
 use crate::tally::Tally;
 
 const STEP: [&str; 3] = [
@@ -13,10 +14,8 @@ const STEP: [&str; 3] = [
     "CommandBuilder::should_split, extended supported",
     "CommandBuilder::should_split, extended forced",
 ];
-const TOO_LONG: &str =
-    "CommandBuilder::should_split, data above 65,535 bytes (the Rust panics: 13)";
-const PARTS: &str =
-    "CommandBuilder::should_split, then both parts written by our numbers (as the Rust writes them)";
+const TOO_LONG: &str = "CommandBuilder::should_split, data above 65,535 bytes (the Rust panics: 13)";
+const PARTS: &str = "CommandBuilder::should_split, then both parts written by our numbers (as the Rust writes them)";
 
 /// A command cut once, for a buffer of so many bytes.
 pub fn step(asked: Asked<'_>, available: usize) -> impl Call<SPLIT_NUMBERS> + '_ {
@@ -32,6 +31,7 @@ pub fn step(asked: Asked<'_>, available: usize) -> impl Call<SPLIT_NUMBERS> + '_
         },
         |(asked, available), _| Ok(rust::step(asked, *available)?.into()),
     )
+    .recorded_as(Operation::ShouldSplit)
 }
 
 /// Both parts, written by the numbers told.
@@ -67,10 +67,5 @@ pub fn parts(tally: &mut Tally, asked: Asked, available: usize) {
         Outcome::new(Ok(()), numbers(0), bytes(0)).reading(read)
     };
     let (theirs, ours) = (outcome(theirs), outcome(written(asked, available)));
-    tally.compare(
-        (PARTS, &[]),
-        || format!("{asked:?}, buffer of {available} bytes"),
-        &theirs,
-        &ours,
-    );
+    tally.compare((PARTS, &[]), || format!("{asked:?}, buffer of {available} bytes"), &theirs, &ours);
 }

@@ -17,8 +17,7 @@ use crate::timing::{checked, told, Lines, Size, HEADER, NO_LIMIT};
 const MOST: f64 = 1.10;
 
 /// How many data bytes are cut, in numbers and in words: about the longest, a tenth and a hundredth of it.
-const LENGTHS: [(usize, &str); 3] =
-    [(655, "655 bytes"), (6_553, "6,553 bytes"), (65_535, "65,535 bytes")];
+const LENGTHS: [(usize, &str); 3] = [(655, "655 bytes"), (6_553, "6,553 bytes"), (65_535, "65,535 bytes")];
 
 /// The Rust's two builders, if any.
 #[inline(never)]
@@ -87,9 +86,7 @@ pub fn time(lines: &mut Lines) {
     for (n, words) in [(254, "fits"), (655, "655 bytes")] {
         one_step(lines, &format!("one step for {BUFFER_LEN}, {words}"), &data[..n]);
     }
-    for (available, (n, words), (le, with)) in
-        triples([BUFFER_LEN, 10], LENGTHS, [(0, ""), (256, ", Le")])
-    {
+    for (available, (n, words), (le, with)) in triples([BUFFER_LEN, 10], LENGTHS, [(0, ""), (256, ", Le")]) {
         let data = &data[..n];
         let sample = Sample { le, data, available };
         let (to, out, bytes) = (available, 2, 40 * n);

@@ -11,12 +11,14 @@ use super::model;
 use super::names::{self, Names};
 use crate::call::{call, leave, Call, Given, Left};
 use crate::lent::{self, numbers, Hex, Lent, Outcome};
+use crate::record::Operation;
 use crate::tally::Tally;
 
 /// One of them: its names, the exported function, what the Rust reads and what the model says.
 pub trait Front<const N: usize>: Copy + Given {
     const NAMES: Names;
     const OURS: fn(u8, &[u8], &mut [u64]) -> Reply;
+    const RECORDED: Operation;
 
     fn rust(self, bytes: &[u8]) -> Option<[u64; N]>;
 
@@ -32,6 +34,7 @@ pub trait Front<const N: usize>: Copy + Given {
         )
         .held_to(|(of, (reading, bytes)), _| Ok(of.answer(*reading, bytes)?.into()))
         .counted(|(_, (reading, _)), _, answer| Some(Self::NAMES.of(*reading, answer.is_ok())))
+        .recorded_as((reading == CRATE_READING).then_some(Self::RECORDED))
     }
 
     fn compare(self, tally: &mut Tally, reading: u8, bytes: &[u8], len: usize) {
@@ -61,8 +64,7 @@ pub trait Front<const N: usize>: Copy + Given {
             if (black_box(&string), reply, &out) == (&before, demanded, &wanted) {
                 agreed[usize::from(answer.err().unwrap_or(0))] += 1;
             } else {
-                let outcome =
-                    |reply, out: &Lent<u64>| Outcome::new(reply, out.clone(), lent::bytes(0));
+                let outcome = |reply, out: &Lent<u64>| Outcome::new(reply, out.clone(), lent::bytes(0));
                 let theirs = outcome(demanded, &wanted).reading(before.to_vec());
                 let ours = outcome(reply, &out).reading(string.to_vec());
                 let input = || format!("{:?}", self.of(reading, bytes));
@@ -85,6 +87,7 @@ impl Given for Tag {}
 impl Front<TAG_NUMBERS> for Tag {
     const NAMES: Names = names::TAG;
     const OURS: fn(u8, &[u8], &mut [u64]) -> Reply = gorvisclen::take_tag;
+    const RECORDED: Operation = Operation::TakeTag;
 
     #[inline(always)]
     fn rust(self, bytes: &[u8]) -> Option<[u64; TAG_NUMBERS]> {
@@ -105,6 +108,7 @@ impl Given for Len {}
 impl Front<LEN_NUMBERS> for Len {
     const NAMES: Names = names::LEN;
     const OURS: fn(u8, &[u8], &mut [u64]) -> Reply = gorvisclen::take_len;
+    const RECORDED: Operation = Operation::TakeLen;
 
     #[inline(always)]
     fn rust(self, bytes: &[u8]) -> Option<[u64; LEN_NUMBERS]> {
@@ -125,6 +129,7 @@ impl Given for Object {}
 impl Front<OBJECT_NUMBERS> for Object {
     const NAMES: Names = names::OBJECT;
     const OURS: fn(u8, &[u8], &mut [u64]) -> Reply = gorvisclen::take_data_object;
+    const RECORDED: Operation = Operation::TakeDataObject;
 
     #[inline(always)]
     fn rust(self, bytes: &[u8]) -> Option<[u64; OBJECT_NUMBERS]> {

@@ -10,6 +10,7 @@ use super::model;
 use super::names::{ABOVE, ABOVE_VALUE, LOOKUP, STANDARD_VALUE, VALUE};
 use crate::call::{call, Call, Given};
 use crate::lent::Hex;
+use crate::record::{Handed, Operation};
 use crate::tally::Tally;
 
 /// One lookup.
@@ -36,8 +37,14 @@ pub fn tag(number: &u32) -> Option<Tag> {
     Some(tag)
 }
 
-/// The record and the path.
 impl Given for Lookup<'_> {
+    fn hand<'a>(&'a self, to: &mut Handed<'a>) {
+        self.reading.hand(to);
+        self.record.hand(to);
+        self.path.iter().for_each(|&number| to.number(number as usize));
+    }
+
+    /// The record and the path.
     fn read(&self) -> Vec<u8> {
         let path = self.path.iter().flat_map(|number| number.to_be_bytes());
         self.record.iter().copied().chain(path).collect()
@@ -67,17 +74,17 @@ impl<'a> Lookup<'a> {
         self.found().map_or(0, |part| part.len())
     }
 
+    /// An operation where it is the Rust's.
+    fn of_rust(&self, operation: Operation) -> Option<Operation> {
+        (self.reading == CRATE_READING && self.has_rust()).then_some(operation)
+    }
+
     fn has_rust(&self) -> bool {
         self.path.iter().all(|&number| number <= 0xFF_FFFF)
     }
 
     /// Holds both to a place and bytes that are written down, or a refusal, under a name of its own, and compares them.
-    pub fn written(
-        self,
-        tally: &mut Tally,
-        operation: &'static str,
-        answer: Result<(usize, &[u8]), u8>,
-    ) {
+    pub fn written(self, tally: &mut Tally, operation: &'static str, answer: Result<(usize, &[u8]), u8>) {
         let part = answer.map(|(place, value)| [place as u64, value.len() as u64].into());
         find(self).written(tally, operation, &part, 0);
         let bytes = answer.map(|(_, bytes)| Some(bytes.into()).into());
@@ -91,9 +98,7 @@ pub fn find(lookup: Lookup<'_>) -> impl Call<LOOKUP_NUMBERS> + '_ {
     call(
         (ABOVE, &[]),
         lookup,
-        |lookup, _, out| {
-            gorvisclen::get_data_object(lookup.reading, &lookup.record, &lookup.path, out)
-        },
+        |lookup, _, out| gorvisclen::get_data_object(lookup.reading, &lookup.record, &lookup.path, out),
         |lookup, _| {
             let part = lookup.found()?;
             Ok([part.start as u64, part.len() as u64].into())
@@ -103,6 +108,7 @@ pub fn find(lookup: Lookup<'_>) -> impl Call<LOOKUP_NUMBERS> + '_ {
         let above = lookup.reading == CRATE_READING && !lookup.has_rust();
         (!above).then_some(LOOKUP.of(lookup.reading, answer.is_ok()))
     })
+    .recorded_as(lookup.of_rust(Operation::GetDataObject))
 }
 
 /// Its bytes.
@@ -118,4 +124,5 @@ pub fn value(lookup: Lookup<'_>) -> impl Call<1> + '_ {
         |lookup, to, out| gorvisclen::value(lookup.reading, &lookup.record, &lookup.path, to, out),
         |lookup, _| Ok(Some(lookup.record[lookup.found()?].into()).into()),
     )
+    .recorded_as(lookup.of_rust(Operation::Value))
 }

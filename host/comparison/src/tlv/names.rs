@@ -34,14 +34,12 @@ pub const TAG: Names = names!("take_tag", "the tag", "how many bytes it takes");
 
 pub const LEN: Names = names!("take_len", "the length", "how many bytes it takes");
 
-pub const OBJECT: Names =
-    names!("take_data_object", "the tag", "the value's place", "the value's length");
+pub const OBJECT: Names = names!("take_data_object", "the tag", "the value's place", "the value's length");
 
 pub const LOOKUP: Names = names!("get_data_object", "the value's place", "the value's length");
 
 /// A lookup with a number in its path that no tag of the Rust can hold.
-pub const ABOVE: &str =
-    "get_data_object, a number above FFFFFF (no Rust: held to a model of document 01)";
+pub const ABOVE: &str = "get_data_object, a number above FFFFFF (no Rust: held to a model of document 01)";
 
 pub const VALUE: &str = "get_data_object, the value's bytes";
 pub const STANDARD_VALUE: &str = standard!("get_data_object, the value's bytes");

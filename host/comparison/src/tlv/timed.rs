@@ -18,8 +18,7 @@ use crate::timing::{check, checked, told, Lines, Size, NO_LIMIT};
 const MOST: f64 = 1.50;
 
 /// What is looked for, and its tag. The last one is in no record.
-const ASKED: [(&str, u32); 4] =
-    [("first", 0x5A), ("middle", 0x5F24), ("last", 0xDF8101), ("missing", 0x9F36)];
+const ASKED: [(&str, u32); 4] = [("first", 0x5A), ("middle", 0x5F24), ("last", 0xDF8101), ("missing", 0x9F36)];
 
 /// The tags of the other objects.
 const OTHERS: [u32; 8] = [0xC1, 0x5F25, 0x50, 0xDF8102, 0x9F1F, 0x87, 0x5F20, 0xC2];
@@ -195,8 +194,7 @@ fn lookups<'a>(lines: &mut Lines, name: &str, samples: &[Sample<'a>]) {
         Some(value) => place_of(value, &sample.lookup.record).start,
         None => sample.lookup.record.len(),
     };
-    let size =
-        Size { to: 0, out: LOOKUP_NUMBERS, bytes: samples.iter().map(walked).max().unwrap() };
+    let size = Size { to: 0, out: LOOKUP_NUMBERS, bytes: samples.iter().map(walked).max().unwrap() };
     let finds: Vec<_> = samples.iter().map(|sample| find(sample.lookup)).collect();
     let sides = (samples, &finds[..]);
     lines.sides((name, MOST), size, sides, place, |find, to, out| told(find.ours(to, out)));
@@ -210,9 +208,7 @@ fn lookups<'a>(lines: &mut Lines, name: &str, samples: &[Sample<'a>]) {
 
 pub fn time(lines: &mut Lines) {
     fronts(lines);
-    for (n, words) in
-        [(0, "no bytes"), (16, "16 bytes"), (255, "255 bytes"), (4_096, "4,096 bytes")]
-    {
+    for (n, words) in [(0, "no bytes"), (16, "16 bytes"), (255, "255 bytes"), (4_096, "4,096 bytes")] {
         writing(lines, words, n);
     }
     for (n, words) in [(16, "16 bytes"), (255, "255 bytes"), (4_096, "4,096 bytes")] {

@@ -12,18 +12,18 @@ use crate::call::{call, Call, Given, Left};
 use crate::inputs::Inputs;
 use crate::lent::{places_past, Hex};
 use crate::loops::{pairs, triples};
+use crate::record::{Handed, Operation};
 use crate::tally::Tally;
 
 const WRITE: &str = "Tlv::to_writer";
 const TOO_LONG: &str = "Tlv::to_writer, above 65,535 bytes (the Rust's fails, its tag already out)";
 const PAST: &str = "Tlv::to_writer, a place past the buffer's end (no Rust: held to a rule, 16)";
-const READ_BACK: &str =
-    "Tlv::to_writer, then the standard reading (held to a rule: tag and value come back)";
+const READ_BACK: &str = "Tlv::to_writer, then the standard reading (held to a rule: tag and value come back)";
 
 /// Tags of each size, with zero bytes in front, inside and behind; some that no reading takes.
 const TAGS: [u32; 22] = [
-    0x00, 0x01, 0x5A, 0x1F, 0xFF, 0x5F24, 0x5F00, 0x1F00, 0x0100, 0xFFFF, 0x5F1E, 0x5F80, 0x5F2400,
-    0x5F0024, 0x5F0000, 0x010000, 0x7F8100, 0xDF8101, 0x1FFF7F, 0x1F0001, 0x808080, 0xFFFFFF,
+    0x00, 0x01, 0x5A, 0x1F, 0xFF, 0x5F24, 0x5F00, 0x1F00, 0x0100, 0xFFFF, 0x5F1E, 0x5F80, 0x5F2400, 0x5F0024, 0x5F0000,
+    0x010000, 0x7F8100, 0xDF8101, 0x1FFF7F, 0x1F0001, 0x808080, 0xFFFFFF,
 ];
 
 /// The three bytes of a tag, with zero bytes in front.
@@ -40,8 +40,9 @@ pub struct Object<'a> {
 }
 
 impl Given for Object<'_> {
-    fn read(&self) -> Vec<u8> {
-        [&self.tag, self.value.0].concat()
+    fn hand<'a>(&'a self, to: &mut Handed<'a>) {
+        self.tag.hand(to);
+        self.value.hand(to);
     }
 }
 
@@ -51,9 +52,7 @@ pub fn put(object: Object<'_>, at: usize) -> impl Call<1> + '_ {
     call(
         (if too_long { TOO_LONG } else { WRITE }, &[]),
         (object, at),
-        |&(Object { tag, value }, at), to, out| {
-            gorvisclen::put_data_object(tag, &value, to, at, out)
-        },
+        |&(Object { tag, value }, at), to, out| gorvisclen::put_data_object(tag, &value, to, at, out),
         |&(object, at), to_len| {
             if object.too_long() {
                 return Err(19);
@@ -72,6 +71,7 @@ pub fn put(object: Object<'_>, at: usize) -> impl Call<1> + '_ {
         let past = *at > to_len && object.value.len() <= 65_535;
         past.then_some((PAST, &[]))
     })
+    .recorded_as(Operation::PutDataObject)
 }
 
 impl<'a> Object<'a> {
@@ -121,8 +121,7 @@ fn every_place(tally: &mut Tally, inputs: &mut Inputs) {
         let value = &inputs.bytes(n);
         let object = Object::of(three_bytes(tag), value);
         for buffer_len in 0..=12 {
-            for (at, len) in pairs((0..=buffer_len + 3).chain([usize::MAX - 1, usize::MAX]), 0..=2)
-            {
+            for (at, len) in pairs((0..=buffer_len + 3).chain([usize::MAX - 1, usize::MAX]), 0..=2) {
                 object.write(tally, buffer_len, at, len);
             }
         }
@@ -130,7 +129,7 @@ fn every_place(tally: &mut Tally, inputs: &mut Inputs) {
 }
 
 /// Values of the lengths around each boundary.
-fn every_boundary(tally: &mut Tally, inputs: &mut Inputs) {
+pub fn every_boundary(tally: &mut Tally, inputs: &mut Inputs) {
     let row = &inputs.bytes(131_100);
     let short = [0, 1, 2, 126, 127, 128, 129, 254, 255, 256, 257, 511, 512];
     let long = [65_534, 65_535, 65_536, 65_537, 65_541, 65_791, 131_072];
