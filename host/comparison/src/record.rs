@@ -129,7 +129,7 @@ impl File {
         let reply = reply_of(answer, to_len);
         let kept = self.kept.entry((operation, reply)).or_insert_with(new);
         kept.calls += 1;
-        if kept.calls % kept.every == 0 {
+        if kept.calls.is_multiple_of(kept.every) {
             kept.answers.extend(handed.written(to_len).map(|input| written(input, to_len, answer)));
         }
         if kept.answers.len() == if reply == 0 { MOST } else { MOST_REFUSED } {
