@@ -46,7 +46,7 @@ fn main() {
         let tokens = lexer::tokens(&source);
         write(file, &walker::counted(file, &tokens, &mut branches));
     }
-    let rows: String = branches.iter().map(|row| format!("    {row:?},\n")).collect();
+    let rows: String = branches.iter().map(|row| format!("    {row},\n")).collect();
     let table = format!("pub const BRANCHES: [Branch; {}] = [\n{rows}];\n", branches.len());
     write("branches.rs", &table);
 }

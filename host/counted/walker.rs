@@ -4,21 +4,6 @@ use std::collections::BTreeSet;
 
 use crate::lexer::Token;
 
-/// A row of the table of branches, printed as the program has it.
-#[derive(Debug)]
-pub struct Branch {
-    #[allow(dead_code)]
-    file: String,
-    #[allow(dead_code)]
-    line: u32,
-    /// The head of the `impl`, if any, and the function.
-    #[allow(dead_code)]
-    function: String,
-    /// What it is, in the words of the source.
-    #[allow(dead_code)]
-    text: String,
-}
-
 /// What is put behind the name of a function that stands for the constants.
 const FOR_CONSTANTS: &str = "_for_constants";
 
@@ -28,13 +13,13 @@ struct Walker<'a> {
     /// Functions that are `const`.
     constant: BTreeSet<&'a str>,
     out: String,
-    branches: &'a mut Vec<Branch>,
+    branches: &'a mut Vec<String>,
     owner: String,
     function: String,
 }
 
-/// The copy of a source with its counters. A row for each is added to `branches`, and counts by its place there.
-pub fn counted(file: &str, tokens: &[Token], branches: &mut Vec<Branch>) -> String {
+/// The copy of a source with its counters. A row for each, as the program has it, is added to `branches`, and counts by its place there.
+pub fn counted(file: &str, tokens: &[Token], branches: &mut Vec<String>) -> String {
     let named = tokens.windows(3).filter(|w| [w[0].text, w[1].text] == ["const", "fn"]);
     let mut walker = Walker {
         file,
@@ -107,12 +92,9 @@ impl<'a> Walker<'a> {
 
     /// A new branch, at the token `i`; its place in the table.
     fn branch(&mut self, i: usize, text: String) -> usize {
-        self.branches.push(Branch {
-            file: self.file.to_string(),
-            line: self.tokens[i].line,
-            function: format!("{}{}", self.owner, self.function),
-            text,
-        });
+        let (file, line, function) = (self.file, self.tokens[i].line, format!("{}{}", self.owner, self.function));
+        self.branches
+            .push(format!("Branch {{ file: {file:?}, line: {line}, function: {function:?}, text: {text:?} }}"));
         self.branches.len() - 1
     }
 

@@ -89,16 +89,23 @@ pub fn check<T: PartialEq + std::fmt::Debug>(name: &str, theirs: T, ours: T) {
     }
 }
 
+/// Checks that two sides leave the same in what is lent.
+fn check_left(name: &str, size: Size, sides: [&dyn Fn(&mut [u8], &mut [u64]) -> u8; 2]) {
+    let [theirs, ours] = sides.map(|side| {
+        let (mut to, mut out) = (vec![7; size.to], vec![7; size.out]);
+        (side(&mut to, &mut out), to, out)
+    });
+    check(name, theirs, ours);
+}
+
 /// Checks each call against what it has to leave; its size, with as many numbers as it writes.
 pub fn checked<const N: usize>(name: &str, of: &[impl Call<N>], size: Size) -> Size {
+    let size = Size { out: N, ..size };
     for call in of {
-        let mut lent = [0; 2].map(|_| (vec![7; size.to], vec![7; N]));
-        let [(to, out), (our_to, our_out)] = &mut lent;
-        let theirs = told(leave(&call.theirs(to.len()), to, out));
-        let ours = told(call.ours(our_to, our_out));
-        check(name, (theirs, &lent[0]), (ours, &lent[1]));
+        let theirs = |to: &mut [u8], out: &mut [u64]| told(leave(&call.theirs(to.len()), to, out));
+        check_left(name, size, [&theirs, &|to, out| ours(call, to, out)]);
     }
-    Size { out: N, ..size }
+    size
 }
 
 impl Lines {
@@ -136,10 +143,7 @@ impl Lines {
         by_ours: impl Fn(&T, &mut [u8], &mut [u64]) -> u8,
     ) {
         for (theirs, ours) in theirs.iter().zip(ours) {
-            let mut lent = [0; 2].map(|_| (vec![7; size.to], vec![7; size.out]));
-            let [(to, out), (our_to, our_out)] = &mut lent;
-            let numbers = [by_rust(theirs, to, out), by_ours(ours, our_to, our_out)];
-            check(name, (numbers[0], &lent[0]), (numbers[1], &lent[1]));
+            check_left(name, size, [&|to, out| by_rust(theirs, to, out), &|to, out| by_ours(ours, to, out)]);
         }
         let rust = || round(size, theirs, &by_rust);
         let ours = || round(size, ours, &by_ours);
