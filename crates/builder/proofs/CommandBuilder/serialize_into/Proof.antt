@@ -1,11 +1,11 @@
 use borrow.Author.Needs.{needs}
 use native.Mathlib.Omega.{arith}
-use Prim.Native.Nat.{ℕ, _+_}
+use Prim.Native.Nat.{ℕ, _+_, _-_}
 use mathlib.Core.Path.{_≡_, sym, ap, _∙_}
 use mathlib.Core.List.{List}
-use lib.ListN.{length}
+use lib.ListN.{length, take, drop}
 use Rattle.basis.specs.Reply.{is}
-use Rattle.basis.specs.Part.{put}
+use Rattle.basis.specs.Part.{over, put}
 use Rattle.basis.proofs.Part.{lent}
 use Rattle.builder.specs.Bytes.{lcLen, leLen, requiredLen, commandOf}
 use Rattle.builder.specs.Sizes.{laid}
@@ -60,6 +60,12 @@ returns-3 c =
     let e = buffer-too-short (b z) (d z) (length (buffer z)) (at z) (z .before .before .if1 .left) (omega (arith, sum-is z, z .before .if2 .left, c .if3 .taken)) in
     record { reply = sym e; buffer = rw e }
 
+-- the command was written over the front of the buffer's part from the place on
+wrote : (c : tie.After-put-command) → let z = c .before .before .before .before .before in
+    c .put-command .last .1 .1 .1 .0
+    ≡ over (laid (b z) (z .sizes .result) (d z)) (take (length (buffer z) - at z) (drop (at z) (buffer z)))
+wrote c = c .put-command .ensures
+
 returns-4 : tie.Need-returns-4
 returns-4 c =
     let i = c .before .before .before .before in
@@ -71,7 +77,7 @@ returns-4 c =
       reply = ap is (sum-is z) ∙ sym e;
       buffer = rw e
           (lent (buffer z) (at z) (laid (b z) (z .sizes .result) (d z)) _ (omega (arith, long, sum-is z, z .before .if2 .left, i .if3 .left))
-          (c .before .before .put-command .ensures)
+          (wrote (c .before .before))
           ∙ ap (λ (l : List ℕ). put (at z) l (buffer z)) (command-is z));
     }
 
