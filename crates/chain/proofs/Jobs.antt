@@ -34,6 +34,21 @@ flag-is : (k : ℕ) (x : Bool) → 1 ≤ k → (k ≡ 1 → x ≡ false) → con
 flag-is k x h g =
     elim (decLe k 1) [ yes e ↦ rw (le-ltb 1 k e) (g (omega arith)) | no e ↦ rw (lt-ltb 1 k (omega arith)) ]
 
+-- what a fair job has
+not-ef : (j : Job) → Fair j → j .wanted .class ≢ 0xEF
+not-ef j f = omega (arith, f .class)
+
+le : (j : Job) → Fair j → j .wanted .le ≤ 256
+le j f = omega (arith, f .le)
+
+ten : (j : Job) → Fair j → 10 ≤ j .buffer
+ten j f = omega (arith, f .ten)
+
+-- as many replies as pieces, where there is one
+counted : (j : Job) → 1 ≤ length (pieces j) → length (repliesTo j) ≡ length (pieces j)
+unfolding repliesTo
+counted j h = simp (length-append, length-replicate) (omega arith)
+
 module _ (j : Job) (f : Fair j) where
   abbrev builder : CommandBuilder
   builder =
@@ -43,40 +58,32 @@ module _ (j : Job) (f : Fair j) where
   abbrev d : List ℕ
   d = j .wanted .«data»
 
-  ten : 10 ≤ j .buffer
-  ten = omega (arith, f .ten)
-
   few : length d ≤ 65535
   few = omega (arith, f .few)
 
-  le : j .wanted .le ≤ 256
-  le = omega (arith, f .le)
-
   shows : leShown builder ≡ j .wanted .le
-  shows = le-read builder .number (j .wanted .le) refl (λ _. le)
+  shows = le-read builder .number (j .wanted .le) refl (λ _. le j f)
 
   -- there is a piece
   pub some-piece : 1 ≤ length (pieces j)
-  some-piece = omega (arith, length-map (parts builder d (j .buffer)) pieceOf, cut-sends builder d (j .buffer) ten few .some-part)
+  some-piece = omega (arith, length-map (parts builder d (j .buffer)) pieceOf, cut-sends builder d (j .buffer) (ten j f) few .some-part)
 
   extended : cond (ltb 1 (length (pieces j))) true (extendedFor builder (length d)) ≡ ltb 1 (length (pieces j))
   extended =
       let size = length-map (parts builder d (j .buffer)) pieceOf in
       flag-is (length (pieces j)) (extendedFor builder (length d)) some-piece
       (λ one.
-      let short = cut-sends builder d (j .buffer) ten few .single (omega (arith, size)) in
+      let short = cut-sends builder d (j .buffer) (ten j f) few .single (omega (arith, size)) in
       extended-read builder (length d) .short short (shown-short builder refl) (λ e. cc))
 
   -- one reply for each piece
   pub one-each : length (repliesTo j) ≡ length (pieces j)
-  unfolding repliesTo
-  one-each =
-      simp (length-append, length-replicate) (omega (arith, some-piece))
+  one-each = counted j some-piece
 
   -- sent through a closed reassembler
   pub job-sent : (room : List ℕ) → HasRoom room j → run Closed room (pieces j) ≡ record { replies = repliesTo j; state = Closed; room = over d room }
   unfolding repliesTo
   job-sent room h =
-      command-back builder d (j .buffer) room (omega (arith, f .clear)) (omega (arith, f .class))
-      (λ n e. let q : j .wanted .le ≡ n = cc in omega (arith, le)) few ten (omega (arith, h))
+      command-back builder d (j .buffer) room (omega (arith, f .clear)) (not-ef j f)
+      (λ n e. let q : j .wanted .le ≡ n = cc in omega (arith, le j f)) few (ten j f) (omega (arith, h))
       ∙ rw (extended, shows)

@@ -39,6 +39,16 @@ put-in r room ps qs p k e =
       drop-at (x .replies) rest (length ps) (run-replies r room ps),
     )
 
+-- one of many that were put in, and the rest: the number that refuses it, and what is asked of both
+number : (r : Reassembler) (room p : List ℕ) (ss : List Sent) → RefusedThere r room (noise p ∷ ss) → (k : ℕ) × (joinOf r room p .reply ≡ no k)
+unfolding RefusedThere
+number r room p ss h = h .0
+
+one-more : (r : Reassembler) (room p : List ℕ) (ss : List Sent) → (k : ℕ) × (joinOf r room p .reply ≡ no k)
+    → RefusedThere (joinOf r room p .state) (joinOf r room p .room) ss → RefusedThere r room (noise p ∷ ss)
+unfolding RefusedThere
+one-more r room p ss k rest = (k, rest)
+
 -- many, put in anywhere
 pub noise-nothing : (r : Reassembler) (room : List ℕ) (ss : List Sent) → RefusedThere r room ss
     → let x = run r room (all ss) in
@@ -52,7 +62,7 @@ noise-nothing r room (piece p ∷ ss) h =
     (ap (λ rs. heard o ∷ rs) (s .0), s .1, s .2)
 noise-nothing r room (noise p ∷ ss) h =
     let o = joinOf r room p in
-    let kept = refused-kept r room p _ (h .0 .1) in
+    let kept = refused-kept r room p _ (number r room p ss h .1) in
     let same : run (o .state) (o .room) (others ss) ≡ run r room (others ss) = λ i. run (kept .0 i) (kept .1 i) (others ss) in
     let s = noise-nothing (o .state) (o .room) ss (h .1) in (
       s .0 ∙ ap (λ (x : Run). x .replies) same,
@@ -71,10 +81,9 @@ refused-there r room (piece p ∷ ss) h =
     let o = joinOf r room p in
     refused-there (o .state) (o .room) ss (λ before behind q e. h (piece p ∷ before) behind q (ap (λ l. piece p ∷ l) e))
 refused-there r room (noise p ∷ ss) h =
-    let o = joinOf r room p in (
-      h [] ss p refl,
-      refused-there (o .state) (o .room) ss (λ before behind q e. h (noise p ∷ before) behind q (ap (λ l. noise p ∷ l) e)),
-    )
+    let o = joinOf r room p in
+    one-more r room p ss (h [] ss p refl)
+    (refused-there (o .state) (o .room) ss (λ before behind q e. h (noise p ∷ before) behind q (ap (λ l. noise p ∷ l) e)))
 
 -- what was sent, and what without those put in: a piece is in both, wherever it stands, and one put in only in the first
 all-append : (ss ts : List Sent) → all (ss ++ ts) ≡ all ss ++ all ts
