@@ -61,19 +61,19 @@ lowered-again Unsupported e =
 lowered-again Supported e = refl
 lowered-again Forced e = refl
 
-module _ (b : CommandBuilder) where
-  -- by the expected length and the mode
-  pub le-read : LeRead b
-  unfolding leShown
-  le-read =
-      let m = b .mode in
-      record {
-        number = λ n e h. rw (e, not-lowered m n h);
-        number-lowered = λ n e k h. rw (e, to-256 m n k h);
-        most = λ e h. rw (e, max-not-lowered m h);
-        most-lowered = λ e k. rw (e, k);
-      }
+-- by the expected length and the mode
+pub le-read : (b : CommandBuilder) → LeRead b
+unfolding leShown
+le-read b =
+    let m = b .mode in
+    record {
+      number = λ n e h. rw (e, not-lowered m n h);
+      number-lowered = λ n e k h. rw (e, to-256 m n k h);
+      most = λ e h. rw (e, max-not-lowered m h);
+      most-lowered = λ e k. rw (e, k);
+    }
 
+module _ (b : CommandBuilder) where
   -- in every mode, and in short mode
   pub shown-le : Expected (b .le) → leShown b ≤ 65536
   unfolding leShown
