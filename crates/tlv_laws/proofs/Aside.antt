@@ -23,6 +23,14 @@ use Rattle.tlv_laws.proofs.Covered.{Before, covers-ahead, covers-behind
 use Rattle.tlv_laws.proofs.Covered.{covered-first, covered-later, length-fill, byte-fill}
 use Rattle.tlv_laws.proofs.Skipped.{take-same, lookup-outside, last-found, to-found, to-refused, unseen}
 
+-- what lies behind the part entered last is left aside; no place before that part's end lies behind it
+pub behind-aside : (r : Reading) (s path : List ℕ) (i : ℕ) → lastEntered r s path .at + lastEntered r s path .len ≤ i → i < length s
+    → coveredBy (aside r s path) i ≡ true
+behind-aside r s path i h g = covered-first (behind r s path) (passed r s path) i (omega arith) (omega arith)
+
+before-behind : (r : Reading) (s path : List ℕ) (i : ℕ) → i < past (lastEntered r s path) → covers (behind r s path) i ≡ false
+before-behind r s path i h = covers-ahead (behind r s path) i (omega arith)
+
 -- a place that a lookup looks at lies outside of the values passed over, before the value found, and before the end of the part
 -- entered last
 module _ (r : Reading) (s path : List ℕ) where
@@ -38,11 +46,7 @@ module _ (r : Reading) (s path : List ℕ) where
             (λ k e. omega (arith, to-refused r s path k e)),
       )
 
-  -- all that is left aside: what lies behind the part entered last, and the values passed over
-  pub behind-aside : (i : ℕ) → lastEntered r s path .at + lastEntered r s path .len ≤ i → i < length s
-      → coveredBy (aside r s path) i ≡ true
-  behind-aside i h g = covered-first (behind r s path) (passed r s path) i (omega arith) (omega arith)
-
+  -- the values passed over are left aside too
   pub passed-aside : (i : ℕ) → coveredBy (passed r s path) i ≡ true → coveredBy (aside r s path) i ≡ true
   passed-aside i h = covered-later (behind r s path) (passed r s path) i h
 
@@ -51,12 +55,12 @@ module _ (r : Reading) (s path : List ℕ) where
   unfolding coveredBy
   seen-stays i h =
       let g = seen-only i h in
-      rw (covers-ahead (behind r s path) i (omega arith)) (g .0)
+      rw (before-behind r s path i (omega arith)) (g .0)
 
   found-stays : (p : Span) → lookup r s path ≡ is p → (i : ℕ) → p .at ≤ i → i < past p → coveredBy (aside r s path) i ≡ false
   unfolding coveredBy
   found-stays p e i h g =
-      rw (covers-ahead (behind r s path) i (rw (last-found r s path p e) g))
+      rw (before-behind r s path i (rw (last-found r s path p e) g))
       (uncovered (passed r s path) i (every-weaken (λ q. covers q i ≡ false) (Before p) (passed r s path)
       (λ q g. covers-behind q i (omega arith)) (lookup-outside r s path p e)))
 

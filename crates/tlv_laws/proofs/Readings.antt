@@ -179,28 +179,28 @@ module _ (s : List ℕ) where
         let taken = tag-three Crate s f g (λ z. omega (arith, z, three)) (λ z. omega (arith, z, three)) (d .0) in
         all-is (λ (t : Tag). ⊥) (tagOf Standard s) _ none (sym q ∙ taken)
 
-  pub tags-part : tagParts s ≡ true → tagOf Crate s ≡ tagOf Standard s → ⊥
-  unfolding tagParts
-  tags-part e q =
-      let b2 = getD s 1 0 in
-      by-test (ltb (length s) 2) (λ h. false≢true (rw h at e)) (λ h.
-      by-test (eqb (getD s 0 0 % 32) 31)
-      (λ f.
-      let two = ltb-false (length s) 2 h in
-      let long = eqb-true (getD s 0 0 % 32) 31 f in
-      by-test (partsTwo b2) (part-two two long q) (λ p.
-      by-test (among 0x81 0xFE b2)
-      (λ a. by-test (ltb (length s) 3) (λ g. false≢true (rw (h, f, p, a, g) at e)) (λ g.
-      part-three two long q p a (ltb-false (length s) 3 g) (rw (h, f, p, a, g) at e)))
-      (λ a. false≢true (rw (h, f, p, a) at e))))
-      (λ f. false≢true (rw (h, f) at e)))
+pub tags-part : (s : List ℕ) → tagParts s ≡ true → tagOf Crate s ≡ tagOf Standard s → ⊥
+unfolding tagParts
+tags-part s e q =
+    let b2 = getD s 1 0 in
+    by-test (ltb (length s) 2) (λ h. false≢true (rw h at e)) (λ h.
+    by-test (eqb (getD s 0 0 % 32) 31)
+    (λ f.
+    let two = ltb-false (length s) 2 h in
+    let long = eqb-true (getD s 0 0 % 32) 31 f in
+    by-test (partsTwo b2) (part-two s two long q) (λ p.
+    by-test (among 0x81 0xFE b2)
+    (λ a. by-test (ltb (length s) 3) (λ g. false≢true (rw (h, f, p, a, g) at e)) (λ g.
+    part-three s two long q p a (ltb-false (length s) 3 g) (rw (h, f, p, a, g) at e)))
+    (λ a. false≢true (rw (h, f, p, a) at e))))
+    (λ f. false≢true (rw (h, f) at e)))
 
-  pub tags-differ : Differ (tagParts s ≡ true) (tagOf Crate s) (tagOf Standard s)
-  tags-differ = record { differ = tags-part; equal = λ h. tags-alike (not-true-false (tagParts s) h) }
+pub tags-differ : (s : List ℕ) → Differ (tagParts s ≡ true) (tagOf Crate s) (tagOf Standard s)
+tags-differ s = record { differ = tags-part s; equal = λ h. tags-alike s (not-true-false (tagParts s) h) }
 
-  pub objects-alike : tagParts s ≡ false → objectOf Crate s ≡ objectOf Standard s
-  unfolding objectOf
-  objects-alike e = rw (tags-alike e)
+pub objects-alike : (s : List ℕ) → tagParts s ≡ false → objectOf Crate s ≡ objectOf Standard s
+unfolding objectOf
+objects-alike s e = rw (tags-alike s e)
 
 -- whether such a tag is met at one level, walked from place a of bytes l on
 module _ (t : ℕ) (l : List ℕ) where
@@ -231,20 +231,20 @@ module _ (t : ℕ) (l : List ℕ) where
   None a s =
       drop a l ≡ s → ((x y : List ℕ) → s ≡ x ++ y → lookup Crate x (t ∷ []) ≡ refused 11 → tagParts y ≡ false) → Met a s ≡ false
 
-  level-none : (a : ℕ) (s : List ℕ) → None a s
-  unfolding meetsOf
-  level-none =
-      by-objects Crate None
-      (λ a s k e d h.
-      let none : tagParts (drop a l) ≡ false = rw d (h [] s refl (walked-none Crate t)) in
-      rw (walk-no Crate a s k e) none)
-      (λ a s o e w deeper d h.
-      let k = sizeOf o in
-      rw (walk-met Crate a s o e, d, h [] s refl (walked-none Crate t))
-      (by-test (eqb (o .tag) t) (λ g. rw g) (λ g.
-      rw g (deeper (sym (drop-drop k a l) ∙ ap (drop k) d) (λ x y q z.
-      h (take k s ++ x) y (sym (take-append-drop k s) ∙ rw (q, append-assoc))
-      (walked-append Crate t (take k s) x (walked-next Crate t [] s o (walked-none Crate t) e (eqb-false (o .tag) t g)) z))))))
+level-none : (t : ℕ) (l : List ℕ) (a : ℕ) (s : List ℕ) → None t l a s
+unfolding meetsOf
+level-none t l =
+    by-objects Crate (None t l)
+    (λ a s k e d h.
+    let none : tagParts (drop a l) ≡ false = rw d (h [] s refl (walked-none Crate t)) in
+    rw (walk-no Crate a s k e) none)
+    (λ a s o e w deeper d h.
+    let k = sizeOf o in
+    rw (walk-met Crate a s o e, d, h [] s refl (walked-none Crate t))
+    (by-test (eqb (o .tag) t) (λ g. rw g) (λ g.
+    rw g (deeper (sym (drop-drop k a l) ∙ ap (drop k) d) (λ x y q z.
+    h (take k s ++ x) y (sym (take-append-drop k s) ∙ rw (q, append-assoc))
+    (walked-append Crate t (take k s) x (walked-next Crate t [] s o (walked-none Crate t) e (eqb-false (o .tag) t g)) z))))))
 
 follow-alike : (s : List ℕ) (p : Span) (path : List ℕ) → meetsFrom s p path ≡ false
     → follow Crate s p path ≡ follow Standard s p path

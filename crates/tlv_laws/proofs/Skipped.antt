@@ -27,21 +27,20 @@ use Rattle.tlv_laws.proofs.Behind.{follow-inside}
 use Rattle.tlv_laws.proofs.Covered.{Before, covers-ahead, covers-behind, uncovered, uncovered-append}
 use Rattle.tlv_laws.proofs.Covered.{covered-left, covered-right, covered-before}
 
-module _ (r : Reading) (t : ℕ) where
-  passed-no : (a : ℕ) (s : List ℕ) (k : ℕ) → objectOf r s ≡ refused k → passedAt r t a s ≡ []
-  unfolding passedAt passedOf
-  passed-no a s k e = rw (walk-no r a s k e)
+passed-no : (r : Reading) (t a : ℕ) (s : List ℕ) (k : ℕ) → objectOf r s ≡ refused k → passedAt r t a s ≡ []
+unfolding passedAt passedOf
+passed-no r t a s k e = rw (walk-no r a s k e)
 
-  module _ (a : ℕ) (s : List ℕ) (o : Object) (e : objectOf r s ≡ is o) where
-    passed-is : passedAt r t a s
-        ≡ cond (eqb (o .tag) t) [] (record { at = a + o .at; len = o .len } ∷ passedAt r t (a + sizeOf o) (drop (sizeOf o) s))
-    unfolding passedAt passedOf
-    passed-is = rw (walk-met r a s o e)
+passed-is : (r : Reading) (t a : ℕ) (s : List ℕ) (o : Object) → objectOf r s ≡ is o
+    → passedAt r t a s
+    ≡ cond (eqb (o .tag) t) [] (record { at = a + o .at; len = o .len } ∷ passedAt r t (a + sizeOf o) (drop (sizeOf o) s))
+unfolding passedAt passedOf
+passed-is r t a s o e = rw (walk-met r a s o e)
 
-    -- the value of an object with another tag, by its place and length, is one of those passed over
-    pub passed-next : (o .tag ≡ t → ⊥)
-        → passedAt r t a s ≡ record { at = a + o .at; len = o .len } ∷ passedAt r t (a + (o .at + o .len)) (drop (o .at + o .len) s)
-    passed-next h = rw (passed-is, ne-eqb (o .tag) t h)
+-- the value of an object with another tag, by its place and length, is one of those passed over
+pub passed-next : (r : Reading) (t a : ℕ) (s : List ℕ) (o : Object) → objectOf r s ≡ is o → (o .tag ≡ t → ⊥)
+    → passedAt r t a s ≡ record { at = a + o .at; len = o .len } ∷ passedAt r t (a + (o .at + o .len)) (drop (o .at + o .len) s)
+passed-next r t a s o e h = rw (passed-is r t a s o e, ne-eqb (o .tag) t h)
 
 -- two lists with one byte at each of the first k places
 pub take-same : (k : ℕ) (s s′ : List ℕ) → k ≤ length s → k ≤ length s′ → ((i : ℕ) → i < k → getD s i 0 ≡ getD s′ i 0)
@@ -133,21 +132,19 @@ module _ (r : Reading) (t : ℕ) where
 
 -- along a path: an empty one passes over nothing; where the first tag is found, the values of its level are passed over and those
 -- that the rest of the path passes over from the value found on; where it is refused, the values of its level
-module _ (r : Reading) (s : List ℕ) (p : Span) where
-  pub passed-nothing : passedFrom r s p [] ≡ []
-  unfolding passedFrom
-  passed-nothing = refl
+pub passed-nothing : (r : Reading) (s : List ℕ) (p : Span) → passedFrom r s p [] ≡ []
+unfolding passedFrom
+passed-nothing r s p = refl
 
-  module _ (t : ℕ) (path : List ℕ) where
-    pub passed-found : (q : Span) → seek r t (p .at) (part s p) ≡ is q
-        → passedFrom r s p (t ∷ path) ≡ passedAt r t (p .at) (part s p) ++ passedFrom r s q path
-    unfolding passedFrom
-    passed-found q e = rw e
+pub passed-found : (r : Reading) (s : List ℕ) (p : Span) (t : ℕ) (path : List ℕ) (q : Span) → seek r t (p .at) (part s p) ≡ is q
+    → passedFrom r s p (t ∷ path) ≡ passedAt r t (p .at) (part s p) ++ passedFrom r s q path
+unfolding passedFrom
+passed-found r s p t path q e = rw e
 
-    pub passed-refused : (k : ℕ) → seek r t (p .at) (part s p) ≡ refused k
-        → passedFrom r s p (t ∷ path) ≡ passedAt r t (p .at) (part s p)
-    unfolding passedFrom
-    passed-refused k e = rw (e, append-nil)
+pub passed-refused : (r : Reading) (s : List ℕ) (p : Span) (t : ℕ) (path : List ℕ) (k : ℕ) → seek r t (p .at) (part s p) ≡ refused k
+    → passedFrom r s p (t ∷ path) ≡ passedAt r t (p .at) (part s p)
+unfolding passedFrom
+passed-refused r s p t path k e = rw (e, append-nil)
 
 -- what is passed over lies behind the start of the part that the path starts from
 passed-from : (r : Reading) (s : List ℕ) (p : Span) (path : List ℕ) → Every (λ q. p .at ≤ q .at) (passedFrom r s p path)
@@ -309,12 +306,12 @@ module _ (r : Reading) (s : List ℕ) where
         follow-unseen path m (omega arith) (λ i g f l. same i (omega arith) (omega arith) (looked-deeper p t path i m e g l))))
 
 -- the place up to which a lookup looks
-module _ (r : Reading) (s path : List ℕ) where
-  pub to-found : (p : Span) → lookup r s path ≡ is p → seenTo r s path ≡ p .at
-  to-found p e = rw e (omega arith)
+pub to-found : (r : Reading) (s path : List ℕ) (p : Span) → lookup r s path ≡ is p → seenTo r s path ≡ p .at
+to-found r s path p e = rw e (omega arith)
 
-  pub to-refused : (k : ℕ) → lookup r s path ≡ refused k → seenTo r s path ≡ lastEntered r s path .at + lastEntered r s path .len
-  to-refused k e = rw e (omega arith)
+pub to-refused : (r : Reading) (s path : List ℕ) (k : ℕ) → lookup r s path ≡ refused k
+    → seenTo r s path ≡ lastEntered r s path .at + lastEntered r s path .len
+to-refused r s path k e = rw e (omega arith)
 
 -- a lookup depends only on the bytes that it looks at: those outside of the values passed over and before the value found; where it
 -- is refused, before the end of the part entered last
