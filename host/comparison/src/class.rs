@@ -41,16 +41,6 @@ const STANDARD_SECURE_MESSAGING: [(u8, u8, SecureMessaging); 6] = [
 const STANDARD_CHANNEL: [(u8, u8, u8, u8); 2] =
     [(0b1110_0000, 0b0000_0000, 0b0000_0011, 0), (0b1100_0000, 0b0100_0000, 0b0000_1111, 4)];
 
-fn standard_secure_messaging(cla: u8) -> SecureMessaging {
-    let row = STANDARD_SECURE_MESSAGING.iter().find(|row| cla & row.0 == row.1);
-    row.map_or(SecureMessaging::Unknown, |row| row.2)
-}
-
-fn standard_channel(cla: u8) -> Option<u8> {
-    let row = STANDARD_CHANNEL.iter().find(|row| cla & row.0 == row.1);
-    row.map(|row| row.3 + (cla & row.2))
-}
-
 fn of_range(range: Range) -> u64 {
     match range {
         Range::Interindustry(Interindustry::First) => 0,
@@ -60,41 +50,23 @@ fn of_range(range: Range) -> u64 {
     }
 }
 
-fn of_secure_messaging(sm: SecureMessaging) -> u64 {
-    match sm {
-        SecureMessaging::None => 0,
-        SecureMessaging::Proprietary => 1,
-        SecureMessaging::Standard => 2,
-        SecureMessaging::Authenticated => 3,
-        SecureMessaging::Unknown => 4,
-    }
-}
-
-fn of_chain(chain: Chain) -> u64 {
-    match chain {
-        Chain::LastOrOnly => 0,
-        Chain::NotTheLast => 1,
-        Chain::Unknown => 2,
-    }
-}
-
 fn of_channel(channel: Option<u8>) -> u64 {
     channel.map_or(NONE, u64::from)
 }
 
 type Numbers = [u64; CLASS_NUMBERS];
 
-/// The numbers that the Rust has; those of the standard reading are zeros.
+/// The numbers that the Rust has, those of its own lists by the place there; those of the standard reading are zeros.
 #[inline(always)]
 fn of_class(class: Class) -> Numbers {
     [
         class.into_inner().into(),
         of_range(class.range()),
-        of_secure_messaging(class.secure_messaging()),
+        class.secure_messaging() as u64,
         0,
         class.secure_messaging().none().into(),
         0,
-        of_chain(class.chain()),
+        class.chain() as u64,
         class.chain().last_or_only().into(),
         class.chain().not_the_last().into(),
         of_channel(class.channel()),
@@ -102,47 +74,38 @@ fn of_class(class: Class) -> Numbers {
     ]
 }
 
-/// The places of the numbers of the standard reading.
-const STANDARD: [usize; 3] = [3, 5, 10];
-
 /// The same numbers, those of the standard reading by the tables.
 fn with_standard(mut numbers: Numbers) -> Numbers {
     let cla = numbers[0] as u8;
-    let messaging = standard_secure_messaging(cla);
-    let none = messaging == SecureMessaging::None;
-    let channel = of_channel(standard_channel(cla));
-    for (place, n) in STANDARD.into_iter().zip([of_secure_messaging(messaging), none.into(), channel]) {
-        numbers[place] = n;
-    }
+    let messaging = STANDARD_SECURE_MESSAGING.iter().find(|row| cla & row.0 == row.1);
+    let messaging = messaging.map_or(SecureMessaging::Unknown, |row| row.2);
+    let channel = STANDARD_CHANNEL.iter().find(|row| cla & row.0 == row.1);
+    numbers[3] = messaging as u64;
+    numbers[5] = messaging.none().into();
+    numbers[10] = of_channel(channel.map(|row| row.3 + (cla & row.2)));
     numbers
 }
 
-fn made(cla: u8) -> Result<Class, u8> {
-    Class::from_byte(cla).map_err(|_| 3)
+#[inline(always)]
+fn made<const CHAINED: bool>(cla: u8) -> Result<Numbers, u8> {
+    let class = Class::from_byte(cla).map_err(|_| 3)?;
+    Ok(of_class(if CHAINED { class.as_chained() } else { class }))
 }
 
-/// The class of a byte. The Rust has no standard reading, which the tables stand for.
-fn make(cla: u8) -> impl Call<CLASS_NUMBERS> {
+/// The class of a byte, or the same with its chaining bit set. The Rust has no standard reading, which the tables stand for.
+fn make<const CHAINED: bool>(cla: u8) -> impl Call<CLASS_NUMBERS> {
+    let (name, operation) = match CHAINED {
+        true => ("Class::as_chained", Operation::ClassAsChained),
+        false => ("Class::from_byte", Operation::Class),
+    };
     call(
-        ("Class::from_byte", &NUMBERS),
+        (name, &NUMBERS),
         cla,
-        |&cla, _, out| gorvisclen::class(cla, out),
-        |&cla, _| Ok(of_class(made(cla)?).into()),
+        |&cla, _, out| if CHAINED { gorvisclen::class_as_chained(cla, out) } else { gorvisclen::class(cla, out) },
+        |&cla, _| Ok(made::<CHAINED>(cla)?.into()),
     )
-    .held_to(|&cla, _| Ok(with_standard(of_class(made(cla)?)).into()))
-    .recorded_as(Operation::Class)
-}
-
-/// The same with its chaining bit set.
-fn chained(cla: u8) -> impl Call<CLASS_NUMBERS> {
-    call(
-        ("Class::as_chained", &NUMBERS),
-        cla,
-        |&cla, _, out| gorvisclen::class_as_chained(cla, out),
-        |&cla, _| Ok(of_class(made(cla)?.as_chained()).into()),
-    )
-    .held_to(|&cla, _| Ok(with_standard(of_class(made(cla)?.as_chained())).into()))
-    .recorded_as(Operation::ClassAsChained)
+    .held_to(|&cla, _| Ok(with_standard(made::<CHAINED>(cla)?).into()))
+    .recorded_as(operation)
 }
 
 fn range(cla: u8) -> impl Call<1> {
@@ -156,30 +119,26 @@ fn range(cla: u8) -> impl Call<1> {
 }
 
 fn constants() -> impl Call<CLASS_CONSTANTS> {
-    let bytes = || [ZERO_CLA, NO_SM_CLA, SM_CLA].map(|class| class.into_inner().into());
     call(
         ("the constants of class", &CONSTANTS),
         (),
         |_, _, out| gorvisclen::class_constants(out),
-        move |_, _| Ok(bytes().into()),
+        |_, _| Ok([ZERO_CLA, NO_SM_CLA, SM_CLA].map(|class| class.into_inner().into()).into()),
     )
     .recorded_as(Operation::ClassConstants)
 }
 
 /// Every operation on a class byte, with `out` of a length.
 fn every_operation(tally: &mut Tally, cla: u8, len: usize) {
-    make(cla).compare_numbers(tally, len);
-    chained(cla).compare_numbers(tally, len);
+    make::<false>(cla).compare_numbers(tally, len);
+    make::<true>(cla).compare_numbers(tally, len);
     range(cla).compare_numbers(tally, len);
 }
 
 /// Any class bytes.
 pub fn random(tally: &mut Tally, inputs: &mut Inputs) {
     for _ in 0..4 {
-        let cla = match inputs.below(16) {
-            0 => 0xFF,
-            _ => inputs.byte(),
-        };
+        let cla = if inputs.below(16) == 0 { 0xFF } else { inputs.byte() };
         every_operation(tally, cla, inputs.below(CLASS_NUMBERS + 3));
     }
     constants().compare_numbers(tally, inputs.below(6));
@@ -209,8 +168,7 @@ pub fn recorded(tally: &mut Tally, _: &mut Inputs) {
 /// The Rust gives the 8 numbers that it has; ours gives these and the 3 of the standard reading.
 pub fn time(lines: &mut Lines) {
     let size = Size::default();
-    let every: Vec<_> = (0..=255).map(make).collect();
-    lines.calls("class, every byte", NO_LIMIT, &every, size);
+    lines.calls("class, every byte", NO_LIMIT, &(0..=255).map(make::<false>).collect::<Vec<_>>(), size);
     for (name, cla) in [
         ("  first interindustry, 0D", 0x0D),
         ("  further interindustry, 65", 0x65),
@@ -218,10 +176,8 @@ pub fn time(lines: &mut Lines) {
         ("  proprietary, 84", 0x84),
         ("  refused 3, FF", 0xFF),
     ] {
-        lines.calls(name, NO_LIMIT, &[make(cla)], size);
+        lines.calls(name, NO_LIMIT, &[make::<false>(cla)], size);
     }
-    let every: Vec<_> = (0..=255).map(chained).collect();
-    lines.calls("class, chained, every byte", NO_LIMIT, &every, size);
-    let every: Vec<_> = (0..=255).map(range).collect();
-    lines.calls("range of a class, every byte", NO_LIMIT, &every, size);
+    lines.calls("class, chained, every byte", NO_LIMIT, &(0..=255).map(make::<true>).collect::<Vec<_>>(), size);
+    lines.calls("range of a class, every byte", NO_LIMIT, &(0..=255).map(range).collect::<Vec<_>>(), size);
 }
