@@ -26,13 +26,13 @@ use crate::tally::Tally;
 /// What the front of some bytes is read as, with `out` long enough and too short.
 fn every_front(tally: &mut Tally, inputs: &mut Inputs, bytes: &[u8]) {
     for reading in [CRATE_READING, 1 + inputs.below(255) as u8] {
-        Tag.compare(tally, reading, bytes, TAG_NUMBERS + inputs.below(3));
-        Len.compare(tally, reading, bytes, LEN_NUMBERS + inputs.below(3));
-        Object.compare(tally, reading, bytes, OBJECT_NUMBERS + inputs.below(3));
+        Tag::compare(tally, reading, bytes, TAG_NUMBERS + inputs.below(3));
+        Len::compare(tally, reading, bytes, LEN_NUMBERS + inputs.below(3));
+        Object::compare(tally, reading, bytes, OBJECT_NUMBERS + inputs.below(3));
         match inputs.below(3) {
-            0 => Tag.compare(tally, reading, bytes, inputs.below(TAG_NUMBERS)),
-            1 => Len.compare(tally, reading, bytes, inputs.below(LEN_NUMBERS)),
-            _ => Object.compare(tally, reading, bytes, inputs.below(OBJECT_NUMBERS)),
+            0 => Tag::compare(tally, reading, bytes, inputs.below(TAG_NUMBERS)),
+            1 => Len::compare(tally, reading, bytes, inputs.below(LEN_NUMBERS)),
+            _ => Object::compare(tally, reading, bytes, inputs.below(OBJECT_NUMBERS)),
         }
     }
 }
@@ -56,9 +56,9 @@ fn every_lookup(tally: &mut Tally, inputs: &mut Inputs, record: &[u8], path: &[u
 /// Every string of up to three bytes.
 fn every_short_string(tally: &mut Tally) {
     for (len, reading) in pairs(0..=3, [CRATE_READING, STANDARD_READING]) {
-        Tag.every_string(tally, reading, len);
-        Len.every_string(tally, reading, len);
-        Object.every_string(tally, reading, len);
+        Tag::every_string(tally, reading, len);
+        Len::every_string(tally, reading, len);
+        Object::every_string(tally, reading, len);
     }
 }
 
@@ -73,7 +73,7 @@ pub fn every_length(tally: &mut Tally, inputs: &mut Inputs) {
                 every_front(tally, inputs, &row[..end]);
                 every_lookup(tally, inputs, &row[..end], &[0x5F24]);
             }
-            Len.compare(tally, CRATE_READING, &form, LEN_NUMBERS);
+            Len::compare(tally, CRATE_READING, &form, LEN_NUMBERS);
         }
     }
 }
@@ -91,9 +91,9 @@ fn every_buffer(tally: &mut Tally) {
     ];
     let paths: [&[u32]; 5] = [&[], &[0x5F24], &[0x70, 0x5F24], &[0x5A], &[0xDF8101]];
     for (record, reading, len) in triples(records, 0..=255, 0..=4) {
-        Tag.compare(tally, reading, record, len);
-        Len.compare(tally, reading, record, len);
-        Object.compare(tally, reading, record, len);
+        Tag::compare(tally, reading, record, len);
+        Len::compare(tally, reading, record, len);
+        Object::compare(tally, reading, record, len);
         for path in paths {
             let lookup = Lookup::of(reading, record, path);
             find(lookup).compare_numbers(tally, len);
@@ -203,11 +203,7 @@ pub fn random(tally: &mut Tally, inputs: &mut Inputs) {
 }
 
 pub fn compare(tally: &mut Tally, inputs: &mut Inputs) {
-    edges::the_incident(tally, inputs);
-    edges::p7_p8_p9(tally);
-    edges::tags(tally);
-    edges::lengths_and_objects(tally);
-    edges::lookups(tally);
+    edges::compare(tally, inputs);
     every_short_string(tally);
     every_length(tally, inputs);
     every_buffer(tally);

@@ -7,11 +7,11 @@ use original::tlv::{get_data_object, Tag};
 
 use super::front::{place_of, same};
 use super::model;
-use super::names::{ABOVE, ABOVE_VALUE, LOOKUP, STANDARD_VALUE, VALUE};
+use super::names::{Names, LOOKUP, VALUE};
 use crate::call::{call, Call, Given};
 use crate::lent::Hex;
 use crate::record::{Handed, Operation};
-use crate::tally::Tally;
+use crate::tally::{self, Tally};
 
 /// One lookup.
 #[derive(Clone, Copy, Debug)]
@@ -74,13 +74,22 @@ impl<'a> Lookup<'a> {
         self.found().map_or(0, |part| part.len())
     }
 
-    /// An operation where it is the Rust's.
-    fn of_rust(&self, operation: Operation) -> Option<Operation> {
-        (self.reading == CRATE_READING && self.has_rust()).then_some(operation)
+    /// Whether the path has a number that no tag of the Rust can hold.
+    fn above(&self) -> bool {
+        self.path.iter().any(|&number| number > 0xFF_FFFF)
     }
 
-    fn has_rust(&self) -> bool {
-        self.path.iter().all(|&number| number <= 0xFF_FFFF)
+    /// An operation where it is the Rust's.
+    fn of_rust(&self, operation: Operation) -> Option<Operation> {
+        (self.reading == CRATE_READING && !self.above()).then_some(operation)
+    }
+
+    /// What it counts for.
+    fn names(&self, names: &Names, accepted: bool) -> tally::Names {
+        match self.reading {
+            CRATE_READING if self.above() => (names.above, &[]),
+            reading => names.of(reading, accepted),
+        }
     }
 
     /// Holds both to a place and bytes that are written down, or a refusal, under a name of its own, and compares them.
@@ -96,7 +105,7 @@ impl<'a> Lookup<'a> {
 /// The place of a value and its length.
 pub fn find(lookup: Lookup<'_>) -> impl Call<LOOKUP_NUMBERS> + '_ {
     call(
-        (ABOVE, &[]),
+        lookup.names(&LOOKUP, true),
         lookup,
         |lookup, _, out| gorvisclen::get_data_object(lookup.reading, &lookup.record, &lookup.path, out),
         |lookup, _| {
@@ -104,22 +113,14 @@ pub fn find(lookup: Lookup<'_>) -> impl Call<LOOKUP_NUMBERS> + '_ {
             Ok([part.start as u64, part.len() as u64].into())
         },
     )
-    .counted(|lookup, _, answer| {
-        let above = lookup.reading == CRATE_READING && !lookup.has_rust();
-        (!above).then_some(LOOKUP.of(lookup.reading, answer.is_ok()))
-    })
+    .counted(|lookup, _, answer| Some(lookup.names(&LOOKUP, answer.is_ok())))
     .recorded_as(lookup.of_rust(Operation::GetDataObject))
 }
 
 /// Its bytes.
 pub fn value(lookup: Lookup<'_>) -> impl Call<1> + '_ {
-    let name = match lookup.reading {
-        CRATE_READING if lookup.has_rust() => VALUE,
-        CRATE_READING => ABOVE_VALUE,
-        _ => STANDARD_VALUE,
-    };
     call(
-        (name, &[]),
+        lookup.names(&VALUE, true),
         lookup,
         |lookup, to, out| gorvisclen::value(lookup.reading, &lookup.record, &lookup.path, to, out),
         |lookup, _| Ok(Some(lookup.record[lookup.found()?].into()).into()),

@@ -13,7 +13,7 @@ const END: u8 = 11;
 const UNREADABLE: u8 = 12;
 
 /// Bytes as one big-endian number.
-fn number(bytes: &[u8]) -> u64 {
+pub fn number(bytes: &[u8]) -> u64 {
     bytes.iter().fold(0, |n, &byte| n * 256 + u64::from(byte))
 }
 

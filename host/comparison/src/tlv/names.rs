@@ -4,47 +4,34 @@ use gorvisclen::CRATE_READING;
 
 use crate::tally;
 
-/// The names of an operation: where the Rust reads, where it says `None`, and in the standard reading.
+/// The names of an operation: where the Rust reads, where it says `None`, in the standard reading, and in a lookup with a number
+/// in its path that no tag of the Rust can hold.
 pub struct Names {
-    pub some: &'static str,
-    pub none: &'static str,
-    pub standard: &'static str,
+    some: &'static str,
+    none: &'static str,
+    standard: &'static str,
+    pub above: &'static str,
     /// What each number is that the Rust's answer has.
-    pub numbers: &'static [&'static str],
-}
-
-macro_rules! standard {
-    ($operation:literal) => {
-        concat!($operation, ", standard reading (held to a model of EMV Book 3 Annex B)")
-    };
+    numbers: &'static [&'static str],
 }
 
 macro_rules! names {
-    ($operation:literal, $($number:literal),*) => {
+    ($operation:literal $(, $number:literal)*) => {
         Names {
             some: $operation,
             none: concat!($operation, ", None (11 or 12: held to a model of document 01)"),
-            standard: standard!($operation),
+            standard: concat!($operation, ", standard reading (held to a model of EMV Book 3 Annex B)"),
+            above: concat!($operation, ", a number above FFFFFF (no Rust: held to a model of document 01)"),
             numbers: &[$(concat!($operation, ", ", $number)),*],
         }
     };
 }
 
 pub const TAG: Names = names!("take_tag", "the tag", "how many bytes it takes");
-
 pub const LEN: Names = names!("take_len", "the length", "how many bytes it takes");
-
 pub const OBJECT: Names = names!("take_data_object", "the tag", "the value's place", "the value's length");
-
 pub const LOOKUP: Names = names!("get_data_object", "the value's place", "the value's length");
-
-/// A lookup with a number in its path that no tag of the Rust can hold.
-pub const ABOVE: &str = "get_data_object, a number above FFFFFF (no Rust: held to a model of document 01)";
-
-pub const VALUE: &str = "get_data_object, the value's bytes";
-pub const STANDARD_VALUE: &str = standard!("get_data_object, the value's bytes");
-pub const ABOVE_VALUE: &str =
-    "get_data_object, the value's bytes, a number above FFFFFF (no Rust: held to a model of document 01)";
+pub const VALUE: Names = names!("get_data_object, the value's bytes");
 
 impl Names {
     /// The operation that an answer counts for, and those that its numbers do.

@@ -24,19 +24,19 @@ const ASKED: [(&str, u32); 4] = [("first", 0x5A), ("middle", 0x5F24), ("last", 0
 const OTHERS: [u32; 8] = [0xC1, 0x5F25, 0x50, 0xDF8102, 0x9F1F, 0x87, 0x5F20, 0xC2];
 
 /// Times what the front of some bytes is taken as. The Rust gives a tag as it holds it, ours its number.
-fn front<const N: usize, T>(
+fn front<const N: usize, F: Front<N>, T>(
     lines: &mut Lines,
-    (name, of): (&str, impl Front<N>),
+    (name, _): (&str, F),
     samples: &[(&str, &[u8])],
     by_rust: fn(&[u8]) -> Option<T>,
 ) {
     for &(words, bytes) in samples {
         let name = format!("{name}, {words}");
-        let size = checked(&name, &[of.of(CRATE_READING, bytes)], Size::default());
+        let size = checked(&name, &[F::of(CRATE_READING, bytes)], Size::default());
         lines.giving(
             (&name, NO_LIMIT),
             size,
-            &[(bytes, of.of(CRATE_READING, bytes))],
+            &[(bytes, F::of(CRATE_READING, bytes))],
             |(bytes, _)| by_rust(bytes),
             |(_, call), to, out| told(call.ours(to, out)),
         );

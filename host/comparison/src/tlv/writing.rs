@@ -211,7 +211,7 @@ fn read_back(tally: &mut Tally, inputs: &mut Inputs, tag: [u8; 3]) {
     let path = [number];
     let place = tag_len + length_forms(n)[0].len();
     let answer = [number.into(), place as u64, n as u64];
-    let object = front::Object.of(STANDARD_READING, record);
+    let object = front::Object::of(STANDARD_READING, record);
     object.written(tally, READ_BACK, &Ok(answer.into()), 0);
     let lookup = Lookup::of(STANDARD_READING, record, &path);
     lookup.written(tally, READ_BACK, Ok((place, value)));
