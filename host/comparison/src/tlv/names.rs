@@ -7,7 +7,7 @@ use crate::tally;
 /// The names of an operation: where the Rust reads, where it says `None`, in the standard reading, and in a lookup with a number
 /// in its path that no tag of the Rust can hold.
 pub struct Names {
-    some: &'static str,
+    pub some: &'static str,
     none: &'static str,
     standard: &'static str,
     pub above: &'static str,
