@@ -81,7 +81,7 @@ fn with_standard(mut numbers: Numbers) -> Numbers {
     let messaging = messaging.map_or(SecureMessaging::Unknown, |row| row.2);
     let channel = STANDARD_CHANNEL.iter().find(|row| cla & row.0 == row.1);
     numbers[3] = messaging as u64;
-    numbers[5] = messaging.none().into();
+    numbers[5] = (messaging == SecureMessaging::None).into();
     numbers[10] = of_channel(channel.map(|row| row.3 + (cla & row.2)));
     numbers
 }

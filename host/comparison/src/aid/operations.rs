@@ -1,11 +1,11 @@
 //! The operations on an AID.
 
 use gorvisclen::{AID_NUMBERS, NONE};
-use original::aid::{Aid, Category, FromSliceError};
+use original::aid::{Aid, FromSliceError};
 
-use crate::call::{call, Call, Given};
+use crate::call::{call, Call};
 use crate::lent::Hex;
-use crate::record::{Handed, Operation};
+use crate::record::Operation;
 
 /// What each number of an AID is.
 const NUMBERS: [&str; AID_NUMBERS] = [
@@ -33,26 +33,17 @@ pub fn refusal(error: FromSliceError) -> u8 {
     }
 }
 
-fn of_category(category: Category) -> u64 {
-    match category {
-        Category::International => 0,
-        Category::National => 1,
-        Category::Standard => 2,
-        Category::Proprietary => 3,
-        Category::Other => 4,
-    }
-}
-
 pub fn of_part(part: Option<&[u8]>) -> u64 {
     part.map_or(NONE, |part| part.len() as u64)
 }
 
+/// Its numbers; the category's is its place in the Rust's own list.
 #[inline(always)]
 pub fn of_aid(aid: &Aid) -> [u64; AID_NUMBERS] {
     [
         aid.as_bytes().len() as u64,
         aid.truncated().len() as u64,
-        of_category(aid.category()),
+        aid.category() as u64,
         aid.is_international().into(),
         aid.is_national().into(),
         aid.is_standard().into(),
@@ -63,29 +54,11 @@ pub fn of_aid(aid: &Aid) -> [u64; AID_NUMBERS] {
 }
 
 /// One AID to make: its name, and its truncated length.
-#[derive(Clone, Copy, Debug)]
-pub struct Case<'a> {
-    pub name: Hex<'a, u8>,
-    pub truncated_len: usize,
-}
+pub type Case<'a> = (Hex<'a, u8>, usize);
 
-impl<'a> Case<'a> {
-    pub fn of(name: &'a [u8], truncated_len: usize) -> Self {
-        let name = Hex(name);
-        Case { name, truncated_len }
-    }
-
-    #[inline(always)]
-    pub fn made(&self) -> Result<Aid, u8> {
-        Aid::try_new_truncatable(&self.name, self.truncated_len).map_err(refusal)
-    }
-}
-
-impl Given for Case<'_> {
-    fn hand<'a>(&'a self, to: &mut Handed<'a>) {
-        self.name.hand(to);
-        self.truncated_len.hand(to);
-    }
+#[inline(always)]
+pub fn made((name, truncated_len): &Case) -> Result<Aid, u8> {
+    Aid::try_new_truncatable(name, *truncated_len).map_err(refusal)
 }
 
 /// The AID.
@@ -93,8 +66,8 @@ pub fn make(case: Case<'_>) -> impl Call<AID_NUMBERS> + '_ {
     call(
         ("Aid::try_new_truncatable", &NUMBERS),
         case,
-        |case, _, out| gorvisclen::aid(&case.name, case.truncated_len, out),
-        |case, _| Ok(of_aid(&case.made()?).into()),
+        |(name, truncated_len), _, out| gorvisclen::aid(name, *truncated_len, out),
+        |case, _| Ok(of_aid(&made(case)?).into()),
     )
     .recorded_as(Operation::Aid)
 }
@@ -125,12 +98,8 @@ pub fn part(case: Case<'_>, part: u8) -> impl Call<1> + '_ {
     call(
         (PARTS[usize::from(part.min(3))], &[]),
         (case, part),
-        |(case, part), to, out| gorvisclen::aid_part(&case.name, case.truncated_len, *part, to, out),
-        |(case, part), _| {
-            let aid = case.made()?;
-            let bytes = part_of(&aid, *part);
-            Ok(bytes.map(|bytes| bytes.to_vec().into()).into())
-        },
+        |((name, truncated_len), part), to, out| gorvisclen::aid_part(name, *truncated_len, *part, to, out),
+        |(case, part), _| Ok(part_of(&made(case)?, *part).map(|bytes| bytes.to_vec().into()).into()),
     )
     .recorded_as(Operation::AidPart)
 }
@@ -140,8 +109,8 @@ pub fn matches<'a>(case: Case<'a>, asked: &'a [u8]) -> impl Call<1> + 'a {
     call(
         ("Aid::matches", &[]),
         (case, Hex(asked)),
-        |(case, asked), _, out| gorvisclen::aid_matches(&case.name, case.truncated_len, asked, out),
-        |(case, asked), _| Ok([case.made()?.matches(asked).into()].into()),
+        |((name, truncated_len), asked), _, out| gorvisclen::aid_matches(name, *truncated_len, asked, out),
+        |(case, asked), _| Ok([made(case)?.matches(asked).into()].into()),
     )
     .recorded_as(Operation::AidMatches)
 }

@@ -3,9 +3,9 @@
 
 use original::aid::Aid;
 
-use super::operations::{make, matches, of_part, part, part_of, Case, PIV};
-use crate::call::Call;
-use crate::timing::{told, Lines, Size, NO_LIMIT};
+use super::operations::{made, make, matches, of_part, part, part_of, Case, PIV};
+use crate::lent::Hex;
+use crate::timing::{ours, Lines, Size, NO_LIMIT};
 
 const OWN: &[u8] = &[0xF0; 16];
 
@@ -23,7 +23,7 @@ const SAMPLES: [(&str, &[u8], usize); 7] = [
 /// Copies a part as it is seen in the Rust's AID.
 #[inline(never)]
 fn copy((case, part): &(Case, u8), to: &mut [u8], out: &mut [u64]) -> u8 {
-    let aid = match case.made() {
+    let aid = match made(case) {
         Ok(aid) => aid,
         Err(number) => return number,
     };
@@ -43,29 +43,18 @@ fn made_matches((aid, asked): &(Aid, &[u8]), _: &mut [u8], out: &mut [u64]) -> u
 pub fn time(lines: &mut Lines) {
     let size = Size::default();
     for (words, name, truncated_len) in SAMPLES {
-        let of = [make(Case::of(name, truncated_len))];
-        lines.calls(&format!("aid {words}"), NO_LIMIT, &of, size);
+        lines.calls(&format!("aid {words}"), NO_LIMIT, &[make((Hex(name), truncated_len))], size);
     }
-    let case = Case::of(PIV, 9);
+    let case = (Hex(PIV), 9);
     for (words, asked) in [("all of it", PIV), ("its truncated part", &PIV[..9]), ("another", OWN)] {
         lines.calls(&format!("aid matches, {words}"), NO_LIMIT, &[matches(case, asked)], size);
     }
-    let (to, out, bytes) = (16, 1, 0);
-    let size = Size { to, out, bytes };
-    lines.sides(
-        ("aid matches, all of it, made before", NO_LIMIT),
-        size,
-        (&[(case.made().unwrap(), PIV)], &[matches(case, PIV)]),
-        made_matches,
-        |matches, to, out| told(matches.ours(to, out)),
-    );
+    let size = Size { to: 16, out: 1, bytes: 0 };
+    let before = (made(&case).unwrap(), PIV);
+    let name = "aid matches, all of it, made before";
+    lines.sides((name, NO_LIMIT), size, (&[before], &[matches(case, PIV)]), made_matches, ours);
     for (number, words) in [(2, "RID"), (3, "PIX")] {
-        lines.sides(
-            (&format!("aid {words}, copied"), NO_LIMIT),
-            size,
-            (&[(case, number)], &[part(case, number)]),
-            copy,
-            |part, to, out| told(part.ours(to, out)),
-        );
+        let name = format!("aid {words}, copied");
+        lines.sides((&name, NO_LIMIT), size, (&[(case, number)], &[part(case, number)]), copy, ours);
     }
 }

@@ -23,9 +23,7 @@ pub struct Lookup<'a> {
 
 /// The Rust's tag of a number; none where it is above all of them. Each way to make it has to give the same.
 pub fn tag(number: &u32) -> Option<Tag> {
-    let [0, b1, b2, b3] = number.to_be_bytes() else {
-        return None;
-    };
+    let [0, b1, b2, b3] = number.to_be_bytes() else { return None };
     let tag = Tag::from([b1, b2, b3]);
     let two = u16::from_be_bytes([b2, b3]);
     let same = match [b1, b2] {

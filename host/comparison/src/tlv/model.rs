@@ -62,29 +62,19 @@ pub fn object(reading: u8, bytes: &[u8]) -> Result<[u64; 3], u8> {
     Ok([tag, place, len])
 }
 
-/// All objects of a part of a record, each with its tag and the part that its value is; and the number that the part ends with.
-fn objects(reading: u8, record: &[u8], part: Range<usize>) -> (Vec<(u64, Range<usize>)>, u8) {
-    let mut all = Vec::new();
-    let mut at = part.start;
-    loop {
-        match object(reading, &record[at..part.end]) {
-            Err(number) => return (all, number),
-            Ok([tag, place, len]) => {
-                let start = at + place as usize;
-                at = start + len as usize;
-                all.push((tag, start..at));
-            }
-        }
-    }
-}
-
-/// The part of a record that a path leads to.
+/// The part of a record that a path leads to: at each level the value of the first object with the tag.
 pub fn lookup(reading: u8, record: &[u8], path: &[u32]) -> Result<Range<usize>, u8> {
     let mut part = 0..record.len();
     for &asked in path {
-        let (objects, end) = objects(reading, record, part);
-        let first = objects.into_iter().find(|(tag, _)| *tag == asked.into());
-        part = first.ok_or(end)?.1;
+        let mut at = part.start;
+        part = loop {
+            let [tag, place, len] = object(reading, &record[at..part.end])?;
+            let start = at + place as usize;
+            at = start + len as usize;
+            if tag == asked.into() {
+                break start..at;
+            }
+        };
     }
     Ok(part)
 }

@@ -48,41 +48,25 @@ pub fn length_forms(n: usize) -> Vec<Vec<u8>> {
     fits.map(|(_, form)| form).chain([vec![0x82, high, low]]).collect()
 }
 
-/// A length, written in the shortest form or in another.
-fn some_length(inputs: &mut Inputs, n: usize) -> Vec<u8> {
-    let forms = length_forms(n);
-    let at = match inputs.below(2) {
-        0 => 0,
-        _ => inputs.below(forms.len()),
-    };
-    forms[at].clone()
-}
-
 /// A value that is no template: often none, often one that looks like objects.
 fn some_value(inputs: &mut Inputs) -> Vec<u8> {
-    match inputs.below(8) {
-        0 | 1 => Vec::new(),
-        2 | 3 => [&bytes_of(some_tag(inputs))[..], &[0x03, 0x26, 0x10, 0x09]].concat(),
-        4 => {
-            let n = inputs.one_of(&[126, 127, 128, 129, 255, 256, 257]);
-            inputs.bytes(n)
-        }
-        5 => vec![0; inputs.below(6)],
-        _ => {
-            let n = inputs.below(12);
-            inputs.bytes(n)
-        }
-    }
+    let n = match inputs.below(8) {
+        0 | 1 => 0,
+        2 | 3 => return [&bytes_of(some_tag(inputs))[..], &[0x03, 0x26, 0x10, 0x09]].concat(),
+        4 => inputs.one_of(&[126, 127, 128, 129, 255, 256, 257]),
+        5 => return vec![0; inputs.below(6)],
+        _ => inputs.below(12),
+    };
+    inputs.bytes(n)
 }
 
 impl Record {
-    /// Adds an object. A value too long for a length of two bytes is cut.
+    /// Adds an object, its length in the shortest form or in another. A value too long for a length of two bytes is cut.
     fn add(&mut self, inputs: &mut Inputs, tag: u32, mut value: Record) {
         value.bytes.truncate(65_535);
-        self.bytes.extend(bytes_of(tag));
-        let length = some_length(inputs, value.bytes.len());
-        self.bytes.extend(length);
-        self.bytes.extend(value.bytes);
+        let forms = length_forms(value.bytes.len());
+        let form = if inputs.below(2) == 0 { 0 } else { inputs.below(forms.len()) };
+        self.bytes.extend([&bytes_of(tag), &forms[form], &value.bytes[..]].concat());
         self.paths.push(vec![tag]);
         let inner = value.paths.into_iter();
         self.paths.extend(inner.map(|path| [&[tag], &path[..]].concat()));
@@ -93,16 +77,13 @@ impl Record {
 pub fn some_record(inputs: &mut Inputs, depth: usize) -> Record {
     if depth == 0 {
         let bytes = some_value(inputs);
-        return Record { bytes, paths: Vec::new() };
+        return Record { bytes, ..Record::default() };
     }
     let mut record = Record::default();
     let objects = 1 + inputs.below(4);
     let deepest = inputs.below(objects);
     for i in 0..objects {
-        let deeper = match i == deepest {
-            true => depth - 1,
-            false => inputs.below(depth),
-        };
+        let deeper = if i == deepest { depth - 1 } else { inputs.below(depth) };
         let value = some_record(inputs, deeper);
         let tag = some_tag(inputs);
         record.add(inputs, tag, value);
@@ -120,8 +101,7 @@ fn small_objects(inputs: &mut Inputs, len: usize) -> Record {
         let tag = inputs.one_of(&TAGS[..TAGS.len() - 1]);
         let n = inputs.below(6);
         let bytes = inputs.bytes(n);
-        let paths = Vec::new();
-        record.add(inputs, tag, Record { bytes, paths });
+        record.add(inputs, tag, Record { bytes, ..Record::default() });
     }
     record
 }
@@ -130,9 +110,7 @@ fn small_objects(inputs: &mut Inputs, len: usize) -> Record {
 /// a few more. Its paths lead to that last object, at the top and in the template.
 pub fn long_record(inputs: &mut Inputs, outer: usize, inner: usize) -> Record {
     let (last, template) = (TAGS[TAGS.len() - 1], 0x7F4E);
-    let bytes = vec![0x26, 0x10, 0x09];
-    let paths = Vec::new();
-    let end = Record { bytes, paths };
+    let end = Record { bytes: vec![0x26, 0x10, 0x09], ..Record::default() };
     let mut inside = small_objects(inputs, inner);
     inside.add(inputs, last, end.clone());
     let mut record = small_objects(inputs, outer);
