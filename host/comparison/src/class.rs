@@ -1,7 +1,7 @@
 //! The class byte: every byte, every operation, `out` of every length to 13; and again in any order.
 
 use gorvisclen::{CLASS_CONSTANTS, CLASS_NUMBERS, NONE};
-use original::command::class::{Chain, Class, Interindustry, Range, SecureMessaging, NO_SM_CLA, SM_CLA, ZERO_CLA};
+use original::command::class::{Class, Interindustry, Range, SecureMessaging, NO_SM_CLA, SM_CLA, ZERO_CLA};
 
 use crate::call::{call, Call};
 use crate::inputs::Inputs;
