@@ -8,14 +8,16 @@ mod timed;
 
 use gorvisclen::{COMMAND_NUMBERS, CRATE_READING, OWNED_NUMBERS, STANDARD_READING};
 
-use self::operations::{data, extend, own, parse, Asked, Piece, Room, ROOMS, SHORT_ROOMS};
+pub(crate) use self::operations::rooms;
+use self::operations::{data, data_len, extend, own, parse, Room, ROOMS, SHORT_ROOMS};
 use self::parsed::written;
 pub use self::parsed::{by_rust, of_owned};
 use self::standard::CASES;
 pub use self::timed::time;
 use crate::call::Call;
 use crate::inputs::Inputs;
-use crate::loops::pairs;
+use crate::lent::Hex;
+use crate::loops::{pairs, up_to_two_bytes};
 use crate::tally::Tally;
 
 /// A command of each of the seven cases; one that only the standard reading refuses; refused ones.
@@ -44,10 +46,10 @@ fn rooms_around(n: usize) -> [&'static Room; 2] {
 /// Parsed, its data, and owned, with buffers and rooms of lengths around those that each needs.
 fn every_reading(tally: &mut Tally, inputs: &mut Inputs, apdu: &[u8]) {
     for reading in [CRATE_READING, 1 + inputs.below(255) as u8] {
-        let asked = Asked::of(reading, apdu);
+        let asked = (reading, Hex(apdu));
         parse(asked).compare_numbers(tally, COMMAND_NUMBERS + inputs.below(3));
         parse(asked).compare_numbers(tally, inputs.below(COMMAND_NUMBERS));
-        let n = asked.data_len();
+        let n = data_len(asked);
         data(asked).compare(tally, n, inputs.below(3));
         data(asked).compare(tally, n.saturating_sub(1), 1);
         data(asked).compare(tally, n + inputs.below(20), 1);
@@ -57,8 +59,8 @@ fn every_reading(tally: &mut Tally, inputs: &mut Inputs, apdu: &[u8]) {
         let any = &ROOMS[inputs.below(SHORT_ROOMS)];
         own(asked).compare(tally, any.len, inputs.below(OWNED_NUMBERS + 3));
     }
-    let asked = Asked::of(STANDARD_READING, apdu);
-    let n = asked.data_len();
+    let asked = (STANDARD_READING, Hex(apdu));
+    let n = data_len(asked);
     for room_len in [n, n.saturating_sub(1), n + inputs.below(20)] {
         own(asked).compare(tally, room_len, OWNED_NUMBERS);
     }
@@ -81,7 +83,7 @@ fn every_extension(tally: &mut Tally, inputs: &mut Inputs, apdu: &[u8]) {
                 0 => inputs.below(OWNED_NUMBERS),
                 more => OWNED_NUMBERS + more - 1,
             };
-            (room.extended)(tally, len, &[Piece { apdu, out_len }]);
+            (room.extended)(tally, len, &[(apdu, out_len)]);
         }
     }
     let some = inputs.below(room.len + 1);
@@ -130,22 +132,16 @@ fn every_short_body(tally: &mut Tally, inputs: &mut Inputs) {
         &[0x00, 0xA4, 0x04],
         &[0xFF, 0xFF, 0xFF],
     ];
-    for (header, body) in pairs(headers, 0..1 + 256 + 65_536) {
-        let body = match body {
-            0 => Vec::new(),
-            1..=256 => vec![(body - 1) as u8],
-            _ => ((body - 257) as u16).to_be_bytes().to_vec(),
-        };
+    for (header, body) in pairs(headers, up_to_two_bytes()) {
         let apdu = &[header, &body].concat();
         for reading in [CRATE_READING, STANDARD_READING] {
-            let asked = Asked::of(reading, apdu);
+            let asked = (reading, Hex(apdu));
             parse(asked).compare_numbers(tally, COMMAND_NUMBERS);
             data(asked).compare(tally, inputs.below(3), 1);
             own(asked).compare(tally, ROOMS[inputs.below(3)].len, OWNED_NUMBERS);
         }
         let room = &ROOMS[inputs.below(3)];
-        let out_len = OWNED_NUMBERS;
-        (room.extended)(tally, room.len / 2, &[Piece { apdu, out_len }]);
+        (room.extended)(tally, room.len / 2, &[(apdu, OWNED_NUMBERS)]);
     }
 }
 
@@ -155,7 +151,7 @@ fn every_header(tally: &mut Tally, inputs: &mut Inputs) {
         let apdu = EDGES[inputs.below(EDGES.len())];
         let apdu = &[&number.to_be_bytes(), &apdu[2..]].concat();
         for reading in [CRATE_READING, STANDARD_READING] {
-            let asked = Asked::of(reading, apdu);
+            let asked = (reading, Hex(apdu));
             parse(asked).compare_numbers(tally, COMMAND_NUMBERS);
             own(asked).compare(tally, ROOMS[4].len, OWNED_NUMBERS);
         }
@@ -167,7 +163,7 @@ fn every_expected_length(tally: &mut Tally) {
     for (le, front) in pairs(0..=u16::MAX, [&[0][..], &[0, 0, 0], &[0, 0, 1, 0xAA]]) {
         let apdu = &[&[0x00, 0xC0, 0x00, 0x00], front, &le.to_be_bytes()].concat();
         for reading in [CRATE_READING, STANDARD_READING] {
-            parse(Asked::of(reading, apdu)).compare_numbers(tally, COMMAND_NUMBERS);
+            parse((reading, Hex(apdu))).compare_numbers(tally, COMMAND_NUMBERS);
         }
     }
 }
@@ -192,7 +188,7 @@ fn every_length(tally: &mut Tally, inputs: &mut Inputs) {
             row[4..4 + field.len()].copy_from_slice(&field);
             let apdu = &row[..4 + l];
             for reading in [CRATE_READING, STANDARD_READING] {
-                parse(Asked::of(reading, apdu)).compare_unread(tally, COMMAND_NUMBERS);
+                parse((reading, Hex(apdu))).compare_unread(tally, COMMAND_NUMBERS);
             }
         }
     }
@@ -220,7 +216,7 @@ pub fn every_boundary(tally: &mut Tally, inputs: &mut Inputs) {
 fn every_buffer(tally: &mut Tally) {
     for apdu in EDGES {
         for reading in 0..=255 {
-            let asked = Asked::of(reading, apdu);
+            let asked = (reading, Hex(apdu));
             for len in 0..=COMMAND_NUMBERS + 2 {
                 parse(asked).compare_numbers(tally, len);
                 for room in &ROOMS[..5] {
@@ -232,7 +228,7 @@ fn every_buffer(tally: &mut Tally) {
         for out_len in 0..=OWNED_NUMBERS + 2 {
             for room in &ROOMS[..6] {
                 for len in 0..=room.len {
-                    (room.extended)(tally, len, &[Piece { apdu, out_len }]);
+                    (room.extended)(tally, len, &[(apdu, out_len)]);
                 }
                 for len in room.len + 1..=room.len + 4 {
                     extend(len, apdu, true).compare(tally, room.len, out_len);
@@ -250,12 +246,9 @@ fn every_room(tally: &mut Tally, inputs: &mut Inputs) {
                 let apdu = some_command(inputs, n);
                 let damaged = inputs.damaged(&apdu);
                 for room in &ROOMS {
-                    let mut owned = |reading, apdu, len| {
-                        own(Asked::of(reading, apdu)).compare(tally, room.len, len);
-                    };
-                    owned(CRATE_READING, &apdu, OWNED_NUMBERS);
-                    owned(STANDARD_READING, &apdu, inputs.below(9));
-                    owned(CRATE_READING, &damaged, OWNED_NUMBERS);
+                    own((CRATE_READING, Hex(&apdu))).compare(tally, room.len, OWNED_NUMBERS);
+                    own((STANDARD_READING, Hex(&apdu))).compare(tally, room.len, inputs.below(9));
+                    own((CRATE_READING, Hex(&damaged))).compare(tally, room.len, OWNED_NUMBERS);
                 }
             }
         }
@@ -286,8 +279,8 @@ fn chain(tally: &mut Tally, inputs: &mut Inputs, room: &Room) {
         apdus.push(apdu);
         free -= if n <= free { n } else { 0 };
     }
-    let piece = |apdu| Piece { apdu, out_len: OWNED_NUMBERS - usize::from(inputs.below(16) == 0) };
-    let pieces: Vec<_> = apdus.iter().map(|apdu| &apdu[..]).map(piece).collect();
+    let mut out_len = || OWNED_NUMBERS - usize::from(inputs.below(16) == 0);
+    let pieces: Vec<_> = apdus.iter().map(|apdu| (&apdu[..], out_len())).collect();
     (room.extended)(tally, start, &pieces);
 }
 

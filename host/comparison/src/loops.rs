@@ -17,3 +17,10 @@ pub fn triples<A: Clone, B: Clone, C>(
 ) -> impl Iterator<Item = (A, B, C)> {
     pairs(pairs(first, second), third).map(|((a, b), c)| (a, b, c))
 }
+
+/// Every row of up to two bytes, the shorter ones first.
+pub fn up_to_two_bytes() -> impl Iterator<Item = Vec<u8>> + Clone {
+    let one = (0..=255).map(|byte| vec![byte]);
+    let two = (0..=u16::MAX).map(|number| number.to_be_bytes().to_vec());
+    std::iter::once(Vec::new()).chain(one).chain(two)
+}

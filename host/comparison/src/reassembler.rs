@@ -9,18 +9,15 @@ mod pieces;
 mod steps;
 mod timed;
 
-use std::ops::Range;
-
 use gorvisclen::{Reassembler, JOIN_NUMBERS};
 
 use self::model::BIT;
 use self::pieces::{any_piece, around, some_header, HEADERS};
-use self::steps::{data, join, join_in, reset};
+use self::steps::{data, join, reset, Chain};
 pub use self::timed::time;
 use crate::call::Call;
 use crate::inputs::Inputs;
-use crate::lent::bytes;
-use crate::loops::triples;
+use crate::loops::{pairs, triples, up_to_two_bytes};
 use crate::tally::Tally;
 
 /// Any record, with any number of bytes held.
@@ -38,9 +35,8 @@ fn any_record(inputs: &mut Inputs, header: [u8; 4], room_len: usize) -> Reassemb
         _ => (),
     }
     let opened = match inputs.below(3) {
-        0 => 0,
-        1 => 1,
-        _ => inputs.byte(),
+        2 => inputs.byte(),
+        n => n as u8,
     };
     Reassembler { opened, header, held }
 }
@@ -54,36 +50,32 @@ fn some_numbers(inputs: &mut Inputs, wanted: usize) -> usize {
     }
 }
 
-/// Sequences of pieces in one room: resets between them, and records that no sequence of pieces gives.
-fn sequences(tally: &mut Tally, inputs: &mut Inputs, turns: Range<usize>) {
-    const ROOMS: [usize; 9] = [0, 1, 2, 5, 16, 255, 300, 1_000, 2_500];
-    for turn in turns {
-        let room_len = match turn % 100 {
-            0 => 65_530 + inputs.below(12),
-            _ => ROOMS[inputs.below(ROOMS.len())],
-        };
-        let mut room = bytes(room_len);
-        let header = some_header(inputs);
-        let mut record = Reassembler::CLOSED;
-        for _ in 0..12 {
-            match inputs.below(24) {
-                0 => record = any_record(inputs, header, room_len),
-                1 => {
-                    reset(record).compare_numbers(tally, 0);
-                    record = Reassembler::CLOSED;
-                }
-                2 => {
-                    let joined = around(inputs, record.held.min(room_len));
-                    let to_len = around(inputs, joined);
-                    data(joined, room.part()).compare(tally, to_len, inputs.below(3));
-                }
-                _ => {
-                    // Where more is held than there is room, data for which the sum of both wraps, too.
-                    let free = room_len.checked_sub(record.held).unwrap_or(300);
-                    let piece = any_piece(inputs, header, free);
-                    let len = some_numbers(inputs, JOIN_NUMBERS);
-                    record = join_in(tally, record, &piece, &mut room, len);
-                }
+/// A sequence of pieces in one room: resets between them, and records that no sequence of pieces gives.
+fn sequence(tally: &mut Tally, inputs: &mut Inputs, turn: usize) {
+    let room_len = match turn % 100 {
+        0 => 65_530 + inputs.below(12),
+        _ => inputs.one_of(&[0, 1, 2, 5, 16, 255, 300, 1_000, 2_500]),
+    };
+    let mut chain = Chain::closed(room_len);
+    let header = some_header(inputs);
+    for _ in 0..12 {
+        let held = chain.record.held;
+        match inputs.below(24) {
+            0 => chain.record = any_record(inputs, header, room_len),
+            1 => {
+                reset(chain.record).compare_numbers(tally, 0);
+                chain.record = Reassembler::CLOSED;
+            }
+            2 => {
+                let joined = around(inputs, held.min(room_len));
+                let to_len = around(inputs, joined);
+                data(joined, chain.room.part()).compare(tally, to_len, inputs.below(3));
+            }
+            _ => {
+                // Where more is held than there is room, data for which the sum of both wraps, too.
+                let free = room_len.checked_sub(held).unwrap_or(300);
+                let piece = any_piece(inputs, header, free);
+                chain.join(tally, &piece, some_numbers(inputs, JOIN_NUMBERS));
             }
         }
     }
@@ -97,25 +89,14 @@ fn both_records(tally: &mut Tally, header: [u8; 4], piece: &[u8]) {
     }
 }
 
-/// Every body of up to two bytes, behind a header with the bit and without it; and every body of three bytes that starts with
-/// 0, 1 or 2.
+/// Every body of up to two bytes, behind a header with the bit and without it; bodies of three bytes that start with 0, 1 or 2;
+/// and every part of a header.
 fn short_pieces(tally: &mut Tally) {
     let header = HEADERS[0];
-    for class in [0x00, BIT] {
-        let mut piece = header.to_vec();
-        piece[0] = class;
-        both_records(tally, header, &piece);
-        for a in 0..=255 {
-            both_records(tally, header, &[&piece[..], &[a]].concat());
-            for b in 0..=255 {
-                both_records(tally, header, &[&piece[..], &[a, b]].concat());
-                if a < 3 {
-                    for c in [0, 1, 2, 255] {
-                        both_records(tally, header, &[&piece[..], &[a, b, c]].concat());
-                    }
-                }
-            }
-        }
+    let threes = triples(0..3, 0..=255, [0, 1, 2, 255]).map(|(a, b, c)| vec![a, b, c]);
+    let bodies = up_to_two_bytes().chain(threes);
+    for (body, class) in pairs(bodies, [0x00, BIT]) {
+        both_records(tally, header, &[&[class], &header[1..], &body].concat());
     }
     for len in 0..4 {
         both_records(tally, header, &header[..len]);
@@ -133,25 +114,23 @@ fn headers(tally: &mut Tally) {
     }
 }
 
+/// What is compared turn by turn: so many turns in the short run, and so many at a time in a random one.
+type Turns = (usize, usize, fn(&mut Tally, &mut Inputs, usize));
+const TURNS: [Turns; 3] = [(9_000, 12, sequence), (6_000, 8, extended::chain), (700, 1, lists::list)];
+
 pub fn compare(tally: &mut Tally, inputs: &mut Inputs) {
     short_pieces(tally);
     headers(tally);
-    sequences(tally, inputs, 0..9_000);
-    extended::chains(tally, inputs, 0..6_000);
-    lists::compare(tally, inputs, 0..700);
+    for (turns, _, compare) in TURNS {
+        (0..turns).for_each(|turn| compare(tally, inputs, turn));
+    }
     lists::longest(tally, inputs);
 }
 
 /// Any sequences, chains beside the Rust, and lists of commands.
 pub fn random(tally: &mut Tally, inputs: &mut Inputs) {
-    let turns = |inputs: &mut Inputs, several| {
+    for (_, turns, compare) in TURNS {
         let first = inputs.below(2_100);
-        first..first + several
-    };
-    let some = turns(inputs, 12);
-    sequences(tally, inputs, some);
-    let some = turns(inputs, 8);
-    extended::chains(tally, inputs, some);
-    let some = turns(inputs, 1);
-    lists::compare(tally, inputs, some);
+        (first..first + turns).for_each(|turn| compare(tally, inputs, turn));
+    }
 }

@@ -5,9 +5,9 @@ use original::command::{Command, CommandView};
 
 use super::parsed::{by_rust, of_owned, refusal, Parsed};
 use super::standard::{by_table, NO_CASE, STANDARD_DATA, STANDARD_OWNED};
-use crate::call::{call, Answer, Call, Given, Left};
+use crate::call::{call, Answer, Call, Left};
 use crate::lent::{bytes, Hex};
-use crate::record::{Handed, Operation};
+use crate::record::Operation;
 use crate::tally::{Names, Tally};
 
 /// What each number of a command is.
@@ -37,100 +37,81 @@ const EXTENDED: Names = ("Command::extend_from_command_view", &OF_OWNED);
 const PAST: &str = "Command::extend_from_command_view, held length past the room (no Rust: held to a rule, 18)";
 
 /// One command in one reading.
-#[derive(Clone, Copy, Debug)]
-pub struct Asked<'a> {
-    pub reading: u8,
-    pub apdu: Hex<'a, u8>,
-}
+pub type Asked<'a> = (u8, Hex<'a, u8>);
 
-impl<'a> Asked<'a> {
-    pub fn of(reading: u8, apdu: &'a [u8]) -> Self {
-        let apdu = Hex(apdu);
-        Asked { reading, apdu }
-    }
-
-    fn parsed(&self) -> Result<Parsed<'a>, u8> {
-        match self.reading {
-            CRATE_READING => by_rust(self.apdu.0),
-            _ => by_table(self.apdu.0),
-        }
-    }
-
-    /// An operation where it is the Rust's.
-    fn of_rust(&self, operation: Operation) -> Option<Operation> {
-        (self.reading == CRATE_READING).then_some(operation)
-    }
-
-    pub fn data_len(&self) -> usize {
-        self.parsed().map_or(0, |parsed| parsed.data.len())
+fn parsed((reading, apdu): Asked<'_>) -> Result<Parsed<'_>, u8> {
+    match reading {
+        CRATE_READING => by_rust(apdu.0),
+        _ => by_table(apdu.0),
     }
 }
 
-impl Given for Asked<'_> {
-    fn hand<'a>(&'a self, to: &mut Handed<'a>) {
-        self.reading.hand(to);
-        self.apdu.hand(to);
-    }
+/// How long the data are, if it is a command.
+pub fn data_len(asked: Asked) -> usize {
+    parsed(asked).map_or(0, |parsed| parsed.data.len())
+}
+
+/// An operation where it is the Rust's.
+fn of_rust(reading: u8, operation: Operation) -> Option<Operation> {
+    (reading == CRATE_READING).then_some(operation)
 }
 
 /// A command parsed.
 pub fn parse(asked: Asked<'_>) -> impl Call<COMMAND_NUMBERS> + '_ {
-    let names: Names = match asked.reading {
+    let names: Names = match asked.0 {
         CRATE_READING => ("CommandView::try_from", &NUMBERS),
-        _ => (by_table(&asked.apdu).map_or(NO_CASE, |parsed| parsed.operation), &[]),
+        _ => (by_table(&asked.1).map_or(NO_CASE, |parsed| parsed.operation), &[]),
     };
     call(
         names,
         asked,
-        |asked, _, out| gorvisclen::command(asked.reading, &asked.apdu, out),
-        |asked, _| Ok(by_rust(&asked.apdu)?.numbers.into()),
+        |(reading, apdu), _, out| gorvisclen::command(*reading, apdu, out),
+        |(_, apdu), _| Ok(by_rust(apdu)?.numbers.into()),
     )
-    .held_to(|asked, _| Ok(asked.parsed()?.numbers.into()))
-    .recorded_as(asked.of_rust(Operation::Command))
+    .held_to(|asked, _| Ok(parsed(*asked)?.numbers.into()))
+    .recorded_as(of_rust(asked.0, Operation::Command))
 }
 
 /// The data of a command, copied.
 pub fn data(asked: Asked<'_>) -> impl Call<1> + '_ {
-    let name = match asked.reading {
+    let name = match asked.0 {
         CRATE_READING => "CommandView::data",
         _ => STANDARD_DATA,
     };
     call(
         (name, &[]),
         asked,
-        |asked, to, out| gorvisclen::command_data(asked.reading, &asked.apdu, to, out),
-        |asked, _| Ok(Some(by_rust(&asked.apdu)?.data.into()).into()),
+        |(reading, apdu), to, out| gorvisclen::command_data(*reading, apdu, to, out),
+        |(_, apdu), _| Ok(Some(by_rust(apdu)?.data.into()).into()),
     )
-    .held_to(|asked, _| Ok(Some(asked.parsed()?.data.into()).into()))
-    .recorded_as(asked.of_rust(Operation::CommandData))
+    .held_to(|asked, _| Ok(Some(parsed(*asked)?.data.into()).into()))
+    .recorded_as(of_rust(asked.0, Operation::CommandData))
 }
 
 /// An owned copy of a command. In the crate's reading, `to` is as long as one of the rooms.
 pub fn own(asked: Asked<'_>) -> impl Call<OWNED_NUMBERS> + '_ {
-    let names: Names = match asked.reading {
+    let names: Names = match asked.0 {
         CRATE_READING => ("Command::try_from", &OF_OWNED),
         _ => (STANDARD_OWNED, &[]),
     };
     call(
         names,
         asked,
-        |asked, to, out| gorvisclen::command_owned(asked.reading, &asked.apdu, to, out),
-        |asked, to_len| match asked.reading {
-            CRATE_READING => (Room::with(to_len).owned)(&asked.apdu),
-            _ => own_by_table(&asked.apdu, to_len),
+        |(reading, apdu), to, out| gorvisclen::command_owned(*reading, apdu, to, out),
+        |(reading, apdu), to_len| match *reading {
+            CRATE_READING => (ROOMS.iter().find(|room| room.len == to_len).unwrap().owned)(apdu),
+            _ => own_by_table(apdu, to_len),
         },
     )
-    .recorded_as(asked.of_rust(Operation::CommandOwned))
+    .recorded_as(of_rust(asked.0, Operation::CommandOwned))
 }
 
 fn own_by_table(apdu: &[u8], room_len: usize) -> Answer<'_, OWNED_NUMBERS> {
-    let parsed = by_table(apdu)?;
-    if parsed.data.len() > room_len {
+    let Parsed { numbers: [cla, ins, p1, p2, _, nc, ne, extended], data, .. } = by_table(apdu)?;
+    if data.len() > room_len {
         return Err(2);
     }
-    let [cla, ins, p1, p2, _, nc, ne, extended] = parsed.numbers;
-    let numbers = [cla, ins, p1, p2, nc, ne, extended];
-    Ok(Left::written(numbers, 0, parsed.data))
+    Ok(Left::written([cla, ins, p1, p2, nc, ne, extended], 0, data))
 }
 
 /// An owned command that holds so many bytes, extended by another. Where they are more than the room has, a rule says what is left, and
@@ -144,12 +125,14 @@ pub fn extend(len: usize, apdu: &[u8], past: bool) -> impl Call<OWNED_NUMBERS> +
             assert!(*len > to_len);
             let [cla, ins, p1, p2, _, _, expected, _] = by_rust(apdu)?.numbers;
             let left = Left::from([cla, ins, p1, p2, *len as u64, expected, 1]);
-            let refused = Some(18);
-            Ok(Left { refused, ..left })
+            Ok(Left { refused: Some(18), ..left })
         },
     )
     .recorded_as((!past).then_some(Operation::CommandExtend))
 }
+
+/// A command to extend by, and how many numbers are lent for the answer.
+pub type Piece<'a> = (&'a [u8], usize);
 
 /// A room of a length that is a capacity of the Rust's `Command`, for what that type does.
 pub struct Room {
@@ -158,61 +141,34 @@ pub struct Room {
     pub extended: fn(&mut Tally, usize, &[Piece]),
 }
 
-pub static ROOMS: [Room; 13] = [
-    Room::of::<0>(),
-    Room::of::<1>(),
-    Room::of::<2>(),
-    Room::of::<3>(),
-    Room::of::<5>(),
-    Room::of::<16>(),
-    Room::of::<255>(),
-    Room::of::<256>(),
-    Room::of::<257>(),
-    Room::of::<600>(),
-    Room::of::<65_534>(),
-    Room::of::<65_535>(),
-    Room::of::<65_536>(),
-];
+const fn room<const S: usize>() -> Room {
+    Room { len: S, owned: owned::<S>, extended: extended::<S> }
+}
+
+/// The rooms of these lengths, each made by a function that has the length as its parameter.
+macro_rules! rooms {
+    ($room:ident: $($len:literal),*) => {
+        [$($room::<$len>()),*]
+    };
+}
+pub(crate) use rooms;
+
+pub static ROOMS: [Room; 13] = rooms!(room: 0, 1, 2, 3, 5, 16, 255, 256, 257, 600, 65_534, 65_535, 65_536);
 
 /// How many of the rooms are short.
 pub const SHORT_ROOMS: usize = 10;
 
-impl Room {
-    fn with(len: usize) -> &'static Room {
-        ROOMS.iter().find(|room| room.len == len).unwrap()
-    }
-
-    const fn of<const S: usize>() -> Self {
-        Room {
-            len: S,
-            owned: |apdu| {
-                let command = Command::<S>::try_from(apdu).map_err(refusal)?;
-                let data = command.data().to_vec();
-                Ok(Left::written(of_owned(&command), 0, data))
-            },
-            extended: extended::<S>,
-        }
-    }
-}
-
-/// A command to extend by, and how many numbers are lent for the answer.
-pub struct Piece<'a> {
-    pub apdu: &'a [u8],
-    pub out_len: usize,
-}
-
-/// A command that holds these bytes, at most S.
-fn holding<const S: usize>(bytes: &[u8]) -> Command<S> {
-    let mut held = Command::try_from(&[0x00, 0xA4, 0x04, 0x00]).unwrap();
-    held.data_mut().extend_from_slice(bytes).unwrap();
-    held
+fn owned<const S: usize>(apdu: &[u8]) -> Answer<'_, OWNED_NUMBERS> {
+    let command = Command::<S>::try_from(apdu).map_err(refusal)?;
+    Ok(Left::written(of_owned(&command), 0, command.data().to_vec()))
 }
 
 /// Extends a command that holds `len` bytes, at most S, by one piece after the other.
 fn extended<const S: usize>(tally: &mut Tally, len: usize, pieces: &[Piece]) {
     let mut room = bytes(S);
-    let mut held = holding::<S>(&room.part()[..len]);
-    for &Piece { apdu, out_len } in pieces {
+    let mut held = Command::<S>::try_from(&[0x00, 0xA4, 0x04, 0x00]).unwrap();
+    held.data_mut().extend_from_slice(&room.part()[..len]).unwrap();
+    for &(apdu, out_len) in pieces {
         let len = held.data().len();
         let answer = match CommandView::try_from(apdu).map_err(refusal) {
             Err(number) => Err(number),
@@ -226,15 +182,14 @@ fn extended<const S: usize>(tally: &mut Tally, len: usize, pieces: &[Piece]) {
 
 /// Extends it by a view, and where the rooms are short, a copy of it by an owned command, which has to do the same.
 fn extend_held<const S: usize>(held: &mut Command<S>, view: CommandView, apdu: &[u8]) -> Left<'static, OWNED_NUMBERS> {
-    let before = held.data().clone();
-    let by_owned = Command::<600>::try_from(apdu).ok().filter(|_| S <= 600);
-    let other = by_owned.map(|owned| (owned, held.clone()));
+    let mut other = held.clone();
     let done = held.extend_from_command_view(view);
-    if let Some((owned, mut other)) = other {
+    let (before, behind) = held.data().split_at(other.data().len());
+    assert!(before == &other.data()[..], "the Rust's extension changes what was held");
+    let left = Left::written(of_owned(held), before.len(), behind.to_vec());
+    if let Some(owned) = Command::<600>::try_from(apdu).ok().filter(|_| S <= 600) {
         let same = other.extend_from_command(&owned) == done && other == *held;
         assert!(same, "the Rust's extensions part: {:?}", Hex(apdu));
     }
-    let left = Left::written(of_owned(held), before.len(), held.data()[before.len()..].to_vec());
-    assert!(held.data().starts_with(&before), "the Rust's extension changes what was held");
     Left { refused: done.is_err().then_some(18), ..left }
 }

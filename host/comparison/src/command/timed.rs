@@ -12,6 +12,7 @@ use original::command::{Command, CommandView, FromSliceError};
 use super::operations::{data, own, parse, Asked};
 use super::parsed::{of_owned, refusal, written};
 use crate::call::Call;
+use crate::lent::Hex;
 use crate::timing::{best_of, check, ours, told, Lines, Size, HEADER, NO_LIMIT};
 
 /// The most that ours may take of the Rust's time to parse a command.
@@ -45,7 +46,7 @@ fn parsing(lines: &mut Lines) {
     let samples = samples();
     for kind in ["short", "extended", "refused"] {
         let of_kind = || samples.iter().filter(|sample| sample.0 == kind);
-        let one = |apdu| parse(Asked::of(CRATE_READING, apdu));
+        let one = |apdu| parse((CRATE_READING, Hex(apdu)));
         let all: Vec<_> = of_kind().map(|(_, _, apdu)| one(apdu)).collect();
         lines.calls(kind, MOST, &all, Size::default());
         for (_, name, apdu) in of_kind() {
@@ -62,7 +63,7 @@ fn apdu(n: usize) -> Vec<u8> {
 
 #[inline(never)]
 fn copy_data(asked: &Asked, to: &mut [u8], out: &mut [u64]) -> u8 {
-    match CommandView::try_from(asked.apdu.0) {
+    match CommandView::try_from(asked.1 .0) {
         Ok(view) => {
             to[..view.data().len()].copy_from_slice(view.data());
             out[0] = view.data().len() as u64;
@@ -80,7 +81,7 @@ fn copy<const N: usize>(apdu: &[u8]) -> Result<Command<N>, FromSliceError> {
 /// Times the copy and the data of a command with `N` data bytes.
 fn copies<const N: usize>(lines: &mut Lines, words: &str) {
     let apdu = apdu(N);
-    let asked = Asked::of(CRATE_READING, &apdu);
+    let asked = (CRATE_READING, Hex(&apdu[..]));
     let name = format!("owned copy, {words}");
     let (mut room, mut out) = ([7; N], [7; OWNED_NUMBERS]);
     let reply = own(asked).ours(&mut room, &mut out);
@@ -92,7 +93,7 @@ fn copies<const N: usize>(lines: &mut Lines, words: &str) {
         (&name, NO_LIMIT),
         size,
         &[(asked, own(asked))],
-        |(asked, _)| copy::<N>(&asked.apdu),
+        |(asked, _)| copy::<N>(&asked.1),
         |(_, own), to, out| told(own.ours(to, out)),
     );
     let name = format!("data handed back, {words}");

@@ -1,17 +1,24 @@
 //! Joining as document 01 tells it, under "Reassembly" and "Numbers of refusal". A piece is read by the Rust.
 
-use gorvisclen::{Reassembler, JOIN_NUMBERS};
+use gorvisclen::{Reassembler, JOIN_NUMBERS, OWNED_NUMBERS};
 
+use crate::call::{Answer, Left};
 use crate::command::by_rust;
 
 /// The class bit of a piece that is not the last.
 pub const BIT: u8 = 0x10;
 
-/// A piece that is accepted: the place of its data in the room, the data, and the numbers of the answer and of the record.
-pub struct Joined<'a> {
-    pub from: usize,
-    pub data: &'a [u8],
-    pub numbers: [u64; JOIN_NUMBERS],
+/// The numbers that are told where this command is held: it, or the record of a chain that goes on.
+pub fn told(held: [u64; OWNED_NUMBERS]) -> [u64; JOIN_NUMBERS] {
+    let mut told = [0; JOIN_NUMBERS];
+    if held[0] as u8 & BIT == 0 {
+        told[0] = 1;
+        told[1..8].copy_from_slice(&held);
+    } else {
+        told[8] = 1;
+        told[9..].copy_from_slice(&held[..5]);
+    }
+    told
 }
 
 /// The record after a piece of which these numbers are told.
@@ -25,7 +32,7 @@ fn apart([class, rest @ ..]: [u8; 4]) -> (u8, [u8; 3]) {
 }
 
 /// A piece in a room of that length.
-pub fn join(record: Reassembler, piece: &[u8], room_len: usize) -> Result<Joined<'_>, u8> {
+pub fn join(record: Reassembler, piece: &[u8], room_len: usize) -> Answer<'_, JOIN_NUMBERS> {
     let open = record.opened != 0;
     let parsed = by_rust(piece);
     if open && record.header[0] == 0xFF && !matches!(parsed, Err(1)) {
@@ -38,15 +45,7 @@ pub fn join(record: Reassembler, piece: &[u8], room_len: usize) -> Result<Joined
         return Err(17);
     }
     let from = if open { record.held } else { 0 };
-    let data = parsed.data;
-    let len = from.checked_add(data.len()).filter(|&len| len <= room_len).ok_or(18)? as u64;
-    let mut numbers = [0; JOIN_NUMBERS];
-    if header[0] & BIT == BIT {
-        numbers[8..].copy_from_slice(&[1, class, instruction, p1, p2, len]);
-    } else {
-        let extended = extended.max(open.into());
-        let command = [1, class, instruction, p1, p2, len, expected, extended];
-        numbers[..8].copy_from_slice(&command);
-    }
-    Ok(Joined { from, data, numbers })
+    let len = from.checked_add(parsed.data.len()).filter(|&len| len <= room_len).ok_or(18)? as u64;
+    let held = [class, instruction, p1, p2, len, expected, extended.max(open.into())];
+    Ok(Left::written(told(held), from, parsed.data))
 }

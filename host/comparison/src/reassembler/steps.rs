@@ -3,9 +3,9 @@
 use gorvisclen::{Reassembler, Refused, JOIN_NUMBERS};
 
 use super::model;
-use crate::call::{call, Call, Given, Left};
-use crate::lent::{Hex, Lent};
-use crate::tally::Tally;
+use crate::call::{call, Answer, Call, Given};
+use crate::lent::{bytes, Hex, Lent};
+use crate::tally::{Names, Tally};
 
 const MORE: &str = "Reassembler::join, more (no Rust: held to a model)";
 const SINGLE: &str = "Reassembler::join, the command of a single piece (no Rust: held to a model)";
@@ -21,10 +21,7 @@ pub fn join(record: Reassembler, piece: &[u8]) -> impl Call<JOIN_NUMBERS> + '_ {
         (REFUSED, &[]),
         (record, Hex(piece)),
         |(record, piece), to, out| record.join(piece, to, out),
-        |(record, piece), to_len| {
-            let joined = model::join(*record, piece, to_len)?;
-            Ok(Left::written(joined.numbers, joined.from, joined.data))
-        },
+        |(record, piece), to_len| model::join(*record, piece, to_len),
     )
     .counted(|(Reassembler { opened, header, .. }, _), _, answer| match answer {
         Ok(left) if left.numbers[0] == 0 => Some((MORE, &[])),
@@ -35,17 +32,32 @@ pub fn join(record: Reassembler, piece: &[u8]) -> impl Call<JOIN_NUMBERS> + '_ {
     })
 }
 
-/// Compares a piece in a room, and gives the record after it. The room is as it has to be after it.
-pub fn join_in(tally: &mut Tally, record: Reassembler, piece: &[u8], room: &mut Lent<u8>, len: usize) -> Reassembler {
-    let call = join(record, piece);
-    let answer = call.theirs(room.len());
-    call.held(tally, call.names(room.len(), &answer), &answer, room, len);
-    match &answer {
-        Ok(left) if len >= JOIN_NUMBERS => {
-            left.write(room.part(), &mut [0; JOIN_NUMBERS]).unwrap();
-            model::rest(left.numbers)
+/// A record and its room, as they have to be.
+pub struct Chain {
+    pub record: Reassembler,
+    pub room: Lent<u8>,
+}
+
+impl Chain {
+    /// None that is open, in a room of so many bytes.
+    pub fn closed(room_len: usize) -> Self {
+        Chain { record: Reassembler::CLOSED, room: bytes(room_len) }
+    }
+
+    /// Compares a piece, with so many numbers to write to, and goes on behind it.
+    pub fn join(&mut self, tally: &mut Tally, piece: &[u8], len: usize) {
+        let call = join(self.record, piece);
+        let answer = call.theirs(self.room.len());
+        self.held(tally, call.names(self.room.len(), &answer), piece, &answer, len);
+    }
+
+    /// The same of a piece that is held to an answer.
+    pub fn held(&mut self, tally: &mut Tally, names: Names, piece: &[u8], answer: &Answer<JOIN_NUMBERS>, len: usize) {
+        join(self.record, piece).held(tally, names, answer, &self.room, len);
+        if let (Ok(left), JOIN_NUMBERS..) = (answer, len) {
+            left.write(self.room.part(), &mut [0; JOIN_NUMBERS]).unwrap();
+            self.record = model::rest(left.numbers);
         }
-        _ => record,
     }
 }
 

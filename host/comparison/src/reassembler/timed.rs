@@ -37,10 +37,7 @@ fn longest() -> Vec<Vec<u8>> {
 /// The pieces that the cutter makes of a command.
 fn cut(available: usize) -> Vec<Vec<u8>> {
     let data = (0..LEN).map(|i| (i / 254) as u8).collect();
-    let header = HEADER;
-    let le = 0;
-    let command = lists::Command { header, le, data, available };
-    command.pieces()
+    lists::Command::new(HEADER, data, 0, available).pieces()
 }
 
 #[inline(never)]
