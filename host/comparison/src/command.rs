@@ -13,7 +13,7 @@ use self::operations::{data, data_len, extend, own, parse, Room, ROOMS, SHORT_RO
 use self::parsed::written;
 pub use self::parsed::{by_rust, of_owned};
 use self::standard::CASES;
-pub use self::timed::time;
+pub use self::timed::{adding, time};
 use crate::call::Call;
 use crate::inputs::Inputs;
 use crate::lent::Hex;

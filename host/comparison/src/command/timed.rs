@@ -6,10 +6,10 @@
 use std::hint::black_box;
 use std::time::Instant;
 
-use gorvisclen::{CRATE_READING, OWNED_NUMBERS};
+use gorvisclen::{Refused, CRATE_READING, OWNED_NUMBERS};
 use original::command::{Command, CommandView, FromSliceError};
 
-use super::operations::{data, own, parse, Asked};
+use super::operations::{data, own, parse};
 use super::parsed::{of_owned, refusal, written};
 use crate::call::Call;
 use crate::lent::Hex;
@@ -20,6 +20,9 @@ const MOST: f64 = 1.10;
 
 /// How many pieces a held command is extended by, one after the other.
 const PIECES: usize = 64;
+
+/// How often a round adds pieces.
+const TIMES: usize = 8;
 
 /// Commands that are parsed: the kind, what each is, its bytes.
 fn samples() -> Vec<(&'static str, &'static str, Vec<u8>)> {
@@ -43,14 +46,11 @@ fn samples() -> Vec<(&'static str, &'static str, Vec<u8>)> {
 }
 
 fn parsing(lines: &mut Lines) {
-    let samples = samples();
-    for kind in ["short", "extended", "refused"] {
-        let of_kind = || samples.iter().filter(|sample| sample.0 == kind);
-        let one = |apdu| parse((CRATE_READING, Hex(apdu)));
-        let all: Vec<_> = of_kind().map(|(_, _, apdu)| one(apdu)).collect();
-        lines.calls(kind, MOST, &all, Size::default());
-        for (_, name, apdu) in of_kind() {
-            lines.calls(&format!("  {name}"), MOST, &[one(apdu)], Size::default());
+    for of_kind in samples().chunk_by(|one, next| one.0 == next.0) {
+        let calls: Vec<_> = of_kind.iter().map(|(_, _, apdu)| parse((CRATE_READING, Hex(apdu)))).collect();
+        lines.calls(of_kind[0].0, MOST, &calls, Size::default());
+        for ((_, name, _), call) in of_kind.iter().zip(calls) {
+            lines.calls(&format!("  {name}"), MOST, &[call], Size::default());
         }
     }
 }
@@ -59,18 +59,6 @@ fn parsing(lines: &mut Lines) {
 fn apdu(n: usize) -> Vec<u8> {
     let (lc, le): (_, &[u8]) = if n < 256 { (1, &[0]) } else { (3, &[0, 0]) };
     written(&HEADER, lc, &vec![0xAA; n], le)
-}
-
-#[inline(never)]
-fn copy_data(asked: &Asked, to: &mut [u8], out: &mut [u64]) -> u8 {
-    match CommandView::try_from(asked.1 .0) {
-        Ok(view) => {
-            to[..view.data().len()].copy_from_slice(view.data());
-            out[0] = view.data().len() as u64;
-            0
-        }
-        Err(error) => refusal(error),
-    }
 }
 
 #[inline(never)]
@@ -83,68 +71,69 @@ fn copies<const N: usize>(lines: &mut Lines, words: &str) {
     let apdu = apdu(N);
     let asked = (CRATE_READING, Hex(&apdu[..]));
     let name = format!("owned copy, {words}");
+    let command = Command::<N>::try_from(&apdu).unwrap();
     let (mut room, mut out) = ([7; N], [7; OWNED_NUMBERS]);
     let reply = own(asked).ours(&mut room, &mut out);
-    let command = Command::<N>::try_from(&apdu).unwrap();
-    check(&name, (0, of_owned(&command)), (told(reply), out));
-    check(&name, &command.data()[..], &room);
+    check(&name, (0, of_owned(&command), &command.data()[..]), (told(reply), out, &room));
     let size = Size { to: N, out: OWNED_NUMBERS, bytes: 0 };
-    lines.giving(
-        (&name, NO_LIMIT),
-        size,
-        &[(asked, own(asked))],
-        |(asked, _)| copy::<N>(&asked.1),
-        |(_, own), to, out| told(own.ours(to, out)),
-    );
-    let name = format!("data handed back, {words}");
-    lines.sides((&name, NO_LIMIT), size, (&[asked], &[data(asked)]), copy_data, ours);
-}
-
-/// A command that holds no data.
-fn none_held<const N: usize>() -> Box<Command<N>> {
-    Box::new(Command::try_from(&HEADER).unwrap())
+    lines.giving((&name, NO_LIMIT), size, &[own(asked)], |_| copy::<N>(black_box(&apdu)), ours);
+    lines.calls(&format!("data handed back, {words}"), NO_LIMIT, &[data(asked)], size);
 }
 
 #[inline(never)]
-fn extend<const N: usize>(piece: &[u8], held: &mut Command<N>) -> u8 {
-    match CommandView::try_from(piece) {
-        Ok(view) => held.extend_from_command_view(view).map_or(18, |()| 0),
-        Err(error) => refusal(error),
+fn by_rust<const N: usize>(pieces: &[Vec<u8>], held: &mut Command<N>) -> u8 {
+    for piece in pieces {
+        match CommandView::try_from(&piece[..]) {
+            Ok(view) if held.extend_from_command_view(view).is_ok() => (),
+            Ok(_) => return 18,
+            Err(error) => return refusal(error),
+        }
     }
+    0
 }
 
-fn extended_by_rust<const N: usize>(piece: &[u8], held: &mut Command<N>) -> f64 {
-    let start = Instant::now();
-    for _ in 0..PIECES {
-        black_box(extend(black_box(piece), black_box(held)));
-    }
-    start.elapsed().as_nanos() as f64 / PIECES as f64
+/// The nanoseconds of one of so many calls that are made on something new.
+fn nanoseconds<S, T>(calls: usize, new: impl Fn() -> S, make: impl Fn(&mut S) -> T) -> f64 {
+    let one = || {
+        let mut on = new();
+        let start = Instant::now();
+        black_box(make(black_box(&mut on)));
+        start.elapsed().as_nanos() as f64
+    };
+    best_of(TIMES, one) / calls as f64
 }
 
-fn extended_by_ours(piece: &[u8], room: &mut [u8], out: &mut [u64; OWNED_NUMBERS]) -> f64 {
-    let start = Instant::now();
-    let mut len = 0;
-    for _ in 0..PIECES {
-        let (room, out) = (black_box(&mut *room), black_box(&mut *out));
-        let reply = gorvisclen::command_extend(len, room, black_box(piece), out);
-        black_box(told(reply));
-        len = out[4] as usize;
-    }
-    start.elapsed().as_nanos() as f64 / PIECES as f64
+/// Times the adding of pieces, as so many calls, in a room of `N` bytes, which they fill. The Rust parses each and extends a command
+/// by it that has no data at first. Ours gives the numbers of the command that comes of it.
+pub fn adding<const N: usize>(
+    lines: &mut Lines,
+    (name, most): (&str, f64),
+    (pieces, calls): (&[Vec<u8>], usize),
+    ours: fn(&[Vec<u8>], &mut [u8]) -> Result<[u64; OWNED_NUMBERS], Refused>,
+) {
+    let none_held = || Box::new(Command::<N>::try_from(&HEADER).unwrap());
+    let (mut held, mut room) = (none_held(), vec![1; N]);
+    check(name, 0, by_rust(pieces, &mut held));
+    check(name, Ok(of_owned(&held)), ours(pieces, &mut room));
+    check(name, &held.data()[..], &room[..]);
+    lines.time(
+        name,
+        most,
+        || nanoseconds(calls, none_held, |held| by_rust(black_box(pieces), held)),
+        || nanoseconds(calls, || vec![1; N], |room| ours(black_box(pieces), room)),
+    );
 }
 
 /// Times the extending by pieces of `N / PIECES` data bytes.
 fn extending<const N: usize>(lines: &mut Lines, words: &str) {
-    let name = format!("extend by {words}");
-    let piece = apdu(N / PIECES);
-    let (mut held, mut room, mut out) = (none_held::<N>(), vec![1; N], [7; OWNED_NUMBERS]);
-    extended_by_rust(&piece, &mut held);
-    extended_by_ours(&piece, &mut room, &mut out);
-    check(&name, of_owned(&held), out);
-    check(&name, &held.data()[..], &room[..]);
-    let rust = || best_of(40, || extended_by_rust(&piece, &mut none_held::<N>()));
-    let ours = || best_of(40, || extended_by_ours(&piece, &mut vec![1; N], &mut out.clone()));
-    lines.time(&name, NO_LIMIT, rust, ours);
+    let pieces = vec![apdu(N / PIECES); PIECES];
+    adding::<N>(lines, (&format!("extend by {words}"), NO_LIMIT), (&pieces, PIECES), |pieces, room| {
+        let mut out = [0; OWNED_NUMBERS];
+        for piece in pieces {
+            gorvisclen::command_extend(out[4] as usize, room, piece, &mut out)?;
+        }
+        Ok(out)
+    });
 }
 
 pub fn time(lines: &mut Lines) {
