@@ -4,7 +4,7 @@ use crate::inputs::Inputs;
 use crate::model::MOST;
 
 /// The bytes of an input with these commands and records.
-pub fn input(commands: &[Vec<u8>], records: &[Vec<u8>]) -> Vec<u8> {
+fn input(commands: &[Vec<u8>], records: &[Vec<u8>]) -> Vec<u8> {
     let mut bytes = Vec::new();
     for items in [commands, records] {
         bytes.extend((items.len() as u16).to_be_bytes());
@@ -16,42 +16,42 @@ pub fn input(commands: &[Vec<u8>], records: &[Vec<u8>]) -> Vec<u8> {
     bytes
 }
 
+/// The bytes, damaged one time out of so many.
+fn at_times_damaged(inputs: &mut Inputs, times: usize, bytes: Vec<u8>) -> Vec<u8> {
+    match inputs.below(times) {
+        0 => inputs.damaged(&bytes),
+        _ => bytes,
+    }
+}
+
 fn command(inputs: &mut Inputs) -> Vec<u8> {
     let header = [[0x00, 0xA4, 0x04, 0x00], [0x80, 0x10, 0xFF, 0x01], [0xFF, 0xB0, 0x00, 0x00]];
     let mut bytes = header[inputs.below(20).saturating_sub(17)].to_vec();
     let extended = inputs.below(2) == 1;
     let n = [0, 1, 2, 5, 255, 256, 300][inputs.below(if extended { 7 } else { 5 })];
     let le = inputs.below(2) == 1;
-    if n > 0 {
-        bytes.extend(if extended { vec![0, (n >> 8) as u8, n as u8] } else { vec![n as u8] });
-        bytes.extend(inputs.bytes(n));
+    match (n, extended) {
+        (0, _) => (),
+        (_, true) => bytes.extend([0, (n >> 8) as u8, n as u8]),
+        (_, false) => bytes.push(n as u8),
     }
+    bytes.extend(inputs.bytes(n));
     if le {
-        let value = [0, 1, 256, 0x1234][inputs.below(4)] as u16;
-        let [high, low] = value.to_be_bytes();
+        let [high, low] = inputs.one_of(&[0, 1, 256, 0x1234_u16]).to_be_bytes();
         match (extended, n) {
             (true, 0) => bytes.extend([0, high, low]),
             (true, _) => bytes.extend([high, low]),
             (false, _) => bytes.push(low),
         }
     }
-    bytes
+    at_times_damaged(inputs, 3, bytes)
 }
 
 fn object(inputs: &mut Inputs) -> Vec<u8> {
-    let tags: [&[u8]; 9] = [
-        &[0x00],
-        &[0x5A],
-        &[0xE1],
-        &[0xFE],
-        &[0x5F, 0x24],
-        &[0x9F, 0x7F],
-        &[0xDF, 0xFF],
-        &[0xDF, 0x81, 0x01],
-        &[0x7F, 0xFE, 0xFF],
-    ];
-    let mut bytes = tags[inputs.below(tags.len())].to_vec();
-    let n = [0, 1, 3, 8, 127, 128, 200, 256][inputs.below(8)];
+    let tags: [&[u8]; 9] =
+        [b"\x00", b"\x5A", b"\xE1", b"\xFE", b"\x5F\x24", b"\x9F\x7F", b"\xDF\xFF", b"\xDF\x81\x01", b"\x7F\xFE\xFF"];
+    let mut bytes = inputs.one_of(&tags).to_vec();
+    let n = inputs.one_of(&[0, 1, 3, 8, 127, 128, 200, 256]);
     match inputs.below(3) {
         0 if n < 128 => bytes.push(n as u8),
         1 if n < 256 => bytes.extend([0x81, n as u8]),
@@ -62,37 +62,19 @@ fn object(inputs: &mut Inputs) -> Vec<u8> {
 }
 
 fn record(inputs: &mut Inputs) -> Vec<u8> {
-    let bytes: Vec<u8> = (0..inputs.below(6)).flat_map(|_| object(inputs)).collect();
-    if inputs.below(3) == 0 {
-        inputs.damaged(&bytes)
-    } else {
-        bytes
-    }
+    let bytes = (0..inputs.below(6)).flat_map(|_| object(inputs)).collect();
+    at_times_damaged(inputs, 3, bytes)
 }
 
 pub fn random(inputs: &mut Inputs) -> Vec<u8> {
-    let commands: Vec<_> = (0..inputs.below(5))
-        .map(|_| {
-            let bytes = command(inputs);
-            if inputs.below(3) == 0 {
-                inputs.damaged(&bytes)
-            } else {
-                bytes
-            }
-        })
-        .collect();
-    let records: Vec<_> = (0..inputs.below(5)).map(|_| record(inputs)).collect();
-    let bytes = input(&commands, &records);
-    if inputs.below(2) == 0 {
-        inputs.damaged(&bytes)
-    } else {
-        bytes
-    }
+    let [commands, records] =
+        [command, record].map(|item| (0..inputs.below(5)).map(|_| item(inputs)).collect::<Vec<_>>());
+    at_times_damaged(inputs, 2, input(&commands, &records))
 }
 
 /// An input of so many bytes: two sections, the second with one record of the smallest objects.
-fn of_length(len: usize, record: impl Fn(usize) -> Vec<u8>) -> Vec<u8> {
-    let bytes = input(&[], &[record(len - 6)]);
+fn of_length(len: usize) -> Vec<u8> {
+    let bytes = only(&vec![0x00; len - 6]);
     assert_eq!(bytes.len(), len);
     bytes
 }
@@ -114,7 +96,6 @@ fn only(record: &[u8]) -> Vec<u8> {
 /// Inputs at the edges of their form, and of their length.
 fn edges_of_form() -> Vec<Vec<u8>> {
     let empty = input(&[], &[]);
-    let smallest = |n: usize| vec![0x00; n];
     vec![
         vec![],
         empty.clone(),
@@ -123,10 +104,10 @@ fn edges_of_form() -> Vec<Vec<u8>> {
         vec![0, 1, 0, 0],
         vec![0xFF, 0xFF, 0, 0],
         vec![0, 1, 0xFF, 0xFF, 0, 0],
-        of_length(MOST, smallest),
-        of_length(MOST + 1, smallest),
-        [of_length(MOST, smallest), vec![0]].concat(),
-        [of_length(MOST, smallest), vec![0; 10_000]].concat(),
+        of_length(MOST),
+        of_length(MOST + 1),
+        [of_length(MOST), vec![0]].concat(),
+        [of_length(MOST), vec![0; 10_000]].concat(),
         only(&[0x5A, 0x00, 0x5F, 0x80, 0x00, 0x5A, 0x00]),
         input(&vec![vec![]; 14_998], &vec![vec![]; 15_000]),
         input(&vec![vec![0; 4]; 9_999], &[]),

@@ -1,8 +1,6 @@
 //! The text of the listing: document 01, "The listing". Commands and objects are read by the original Rust.
 
-use std::fmt::Write;
-
-use original::command::{CommandView, FromSliceError};
+use original::command::CommandView;
 use original::tlv::{take_data_object, take_tag};
 
 /// The most bytes of an input.
@@ -14,19 +12,14 @@ fn number(bytes: &[u8]) -> Option<(usize, &[u8])> {
     Some((u16::from_be_bytes(*front).into(), behind))
 }
 
-/// An item behind its length.
-fn item(bytes: &[u8]) -> Option<(&[u8], &[u8])> {
-    let (len, behind) = number(bytes)?;
-    (len <= behind.len()).then(|| behind.split_at(len))
-}
-
-/// A section: so many items as its count says, and what is behind them.
+/// A section: so many items as its count says, each behind its length, and what is behind them.
 fn section(bytes: &[u8]) -> Option<(Vec<&[u8]>, &[u8])> {
     let (count, mut behind) = number(bytes)?;
     let mut items = Vec::new();
     for _ in 0..count {
-        let (next, rest) = item(behind)?;
-        items.push(next);
+        let (len, rest) = number(behind)?;
+        let (item, rest) = rest.split_at_checked(len)?;
+        items.push(item);
         behind = rest;
     }
     Some((items, behind))
@@ -42,20 +35,11 @@ fn sections(input: &[u8]) -> Option<[Vec<&[u8]>; 2]> {
     behind.is_empty().then_some([commands, records])
 }
 
-fn refusal(error: FromSliceError) -> u8 {
-    match error {
-        FromSliceError::TooShort => 1,
-        FromSliceError::TooLong => 2,
-        FromSliceError::InvalidClass => 3,
-        FromSliceError::InvalidFirstBodyByteForExtended => 4,
-        FromSliceError::InvalidSliceLength => 5,
-    }
-}
-
 /// What follows a command's number.
 fn command(apdu: &[u8]) -> String {
     match CommandView::try_from(apdu) {
-        Err(error) => format!("refused {}", refusal(error)),
+        // The Rust's errors are in the order of the numbers.
+        Err(error) => format!("refused {}", 1 + error as u8),
         Ok(view) => format!(
             "{:02X} {:02X} {:02X} {:02X} lc {} le {} {}",
             view.class().into_inner(),
@@ -93,15 +77,13 @@ pub fn text(input: &[u8]) -> String {
     let Some([commands, records]) = sections(input) else {
         return "refused 20\n".into();
     };
-    let mut text = format!("commands {}\n", commands.len());
+    let mut lines = vec![format!("commands {}", commands.len())];
     for (i, apdu) in commands.iter().enumerate() {
-        writeln!(text, "{} {}", i + 1, command(apdu)).expect("a string takes it");
+        lines.push(format!("{} {}", i + 1, command(apdu)));
     }
-    writeln!(text, "records {}", records.len()).expect("a string takes it");
+    lines.push(format!("records {}", records.len()));
     for (i, record) in records.iter().enumerate() {
-        for line in objects(record) {
-            writeln!(text, "{}.{line}", i + 1).expect("a string takes it");
-        }
+        lines.extend(objects(record).iter().map(|line| format!("{}.{line}", i + 1)));
     }
-    text
+    lines.join("\n") + "\n"
 }
