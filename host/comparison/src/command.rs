@@ -9,7 +9,7 @@ mod timed;
 use gorvisclen::{COMMAND_NUMBERS, CRATE_READING, OWNED_NUMBERS, STANDARD_READING};
 
 pub(crate) use self::operations::rooms;
-use self::operations::{data, data_len, extend, own, parse, Room, ROOMS, SHORT_ROOMS};
+use self::operations::{data, data_len, own, parse, Room, ROOMS, SHORT_ROOMS};
 use self::parsed::written;
 pub use self::parsed::{by_rust, of_owned};
 use self::standard::CASES;
@@ -17,7 +17,7 @@ pub use self::timed::{adding, time};
 use crate::call::Call;
 use crate::inputs::Inputs;
 use crate::lent::Hex;
-use crate::loops::{pairs, up_to_two_bytes};
+use crate::loops::{pairs, triples, up_to_two_bytes};
 use crate::tally::Tally;
 
 /// A command of each of the seven cases; one that only the standard reading refuses; refused ones.
@@ -83,7 +83,7 @@ fn every_extension(tally: &mut Tally, inputs: &mut Inputs, apdu: &[u8]) {
                 0 => inputs.below(OWNED_NUMBERS),
                 more => OWNED_NUMBERS + more - 1,
             };
-            (room.extended)(tally, len, &[(apdu, out_len)]);
+            room.extend(tally, len, (apdu, out_len));
         }
     }
     let some = inputs.below(room.len + 1);
@@ -91,23 +91,20 @@ fn every_extension(tally: &mut Tally, inputs: &mut Inputs, apdu: &[u8]) {
     for len in past {
         if len > room.len {
             let out_len = OWNED_NUMBERS - usize::from(inputs.below(8) == 0);
-            extend(len, apdu, true).compare(tally, room.len, out_len);
+            room.extend(tally, len, (apdu, out_len));
         }
     }
 }
 
 /// A command of any header with `n` bytes of data and fields Lc and Le that can go with them. Le is zero at times.
 fn some_command(inputs: &mut Inputs, n: usize) -> Vec<u8> {
-    let fields: Vec<_> = CASES
-        .iter()
-        .map(|&(_, lc, le)| (lc, le))
-        .filter(|(lc, _)| match lc {
-            0 => n == 0,
-            1 => (1..256).contains(&n),
-            _ => true,
-        })
-        .collect();
-    let (lc, le) = fields[inputs.below(fields.len())];
+    let fits = |lc| match lc {
+        0 => n == 0,
+        1 => (1..256).contains(&n),
+        _ => true,
+    };
+    let cases: Vec<_> = CASES.into_iter().filter(|case| fits(case.1)).collect();
+    let (_, lc, le) = inputs.one_of(&cases);
     let mut le = inputs.bytes(le);
     if inputs.below(4) == 0 {
         le.fill(0);
@@ -141,7 +138,7 @@ fn every_short_body(tally: &mut Tally, inputs: &mut Inputs) {
             own(asked).compare(tally, ROOMS[inputs.below(3)].len, OWNED_NUMBERS);
         }
         let room = &ROOMS[inputs.below(3)];
-        (room.extended)(tally, room.len / 2, &[(apdu, OWNED_NUMBERS)]);
+        room.extend(tally, room.len / 2, (apdu, OWNED_NUMBERS));
     }
 }
 
@@ -172,10 +169,7 @@ fn every_expected_length(tally: &mut Tally) {
 /// them; a number that the field cannot hold is cut.
 fn fields_lc(l: usize) -> impl Iterator<Item = Vec<u8>> {
     let short = (0..=3).map(move |less| vec![l.wrapping_sub(less) as u8]);
-    let extended = (2..=6).map(move |less| {
-        let [high, low] = (l.wrapping_sub(less) as u16).to_be_bytes();
-        vec![0, high, low]
-    });
+    let extended = (2..=6).map(move |less| [&[0][..], &(l.wrapping_sub(less) as u16).to_be_bytes()].concat());
     short.chain(extended)
 }
 
@@ -214,43 +208,31 @@ pub fn every_boundary(tally: &mut Tally, inputs: &mut Inputs) {
 
 /// Each edge in each reading, with buffers of every length to more than it needs.
 fn every_buffer(tally: &mut Tally) {
-    for apdu in EDGES {
-        for reading in 0..=255 {
-            let asked = (reading, Hex(apdu));
-            for len in 0..=COMMAND_NUMBERS + 2 {
-                parse(asked).compare_numbers(tally, len);
-                for room in &ROOMS[..5] {
-                    data(asked).compare(tally, room.len, len);
-                    own(asked).compare(tally, room.len, len);
-                }
-            }
+    for (apdu, reading, len) in triples(EDGES, 0..=255, 0..=COMMAND_NUMBERS + 2) {
+        let asked = (reading, Hex(apdu));
+        parse(asked).compare_numbers(tally, len);
+        for room in &ROOMS[..5] {
+            data(asked).compare(tally, room.len, len);
+            own(asked).compare(tally, room.len, len);
         }
-        for out_len in 0..=OWNED_NUMBERS + 2 {
-            for room in &ROOMS[..6] {
-                for len in 0..=room.len {
-                    (room.extended)(tally, len, &[(apdu, out_len)]);
-                }
-                for len in room.len + 1..=room.len + 4 {
-                    extend(len, apdu, true).compare(tally, room.len, out_len);
-                }
-            }
+    }
+    for (apdu, out_len, room) in triples(EDGES, 0..=OWNED_NUMBERS + 2, &ROOMS[..6]) {
+        for len in 0..=room.len + 4 {
+            room.extend(tally, len, (apdu, out_len));
         }
     }
 }
 
 /// Commands with data of every length around a room's, in every room, whole and damaged.
 fn every_room(tally: &mut Tally, inputs: &mut Inputs) {
-    for of in &ROOMS {
-        for n in of.len.saturating_sub(1)..=(of.len + 1).min(65_535) {
-            for _ in 0..6 {
-                let apdu = some_command(inputs, n);
-                let damaged = inputs.damaged(&apdu);
-                for room in &ROOMS {
-                    own((CRATE_READING, Hex(&apdu))).compare(tally, room.len, OWNED_NUMBERS);
-                    own((STANDARD_READING, Hex(&apdu))).compare(tally, room.len, inputs.below(9));
-                    own((CRATE_READING, Hex(&damaged))).compare(tally, room.len, OWNED_NUMBERS);
-                }
-            }
+    let lengths = ROOMS.iter().flat_map(|room| room.len.saturating_sub(1)..=(room.len + 1).min(65_535));
+    for (n, _) in pairs(lengths, 0..6) {
+        let apdu = some_command(inputs, n);
+        let damaged = inputs.damaged(&apdu);
+        for room in &ROOMS {
+            own((CRATE_READING, Hex(&apdu))).compare(tally, room.len, OWNED_NUMBERS);
+            own((STANDARD_READING, Hex(&apdu))).compare(tally, room.len, inputs.below(9));
+            own((CRATE_READING, Hex(&damaged))).compare(tally, room.len, OWNED_NUMBERS);
         }
     }
 }

@@ -116,13 +116,12 @@ fn own_by_table(apdu: &[u8], room_len: usize) -> Answer<'_, OWNED_NUMBERS> {
 
 /// An owned command that holds so many bytes, extended by another. Where they are more than the room has, a rule says what is left, and
 /// else an answer of the Rust's.
-pub fn extend(len: usize, apdu: &[u8], past: bool) -> impl Call<OWNED_NUMBERS> + '_ {
+fn extend(len: usize, apdu: &[u8], past: bool) -> impl Call<OWNED_NUMBERS> + '_ {
     call(
         (PAST, &[]),
         (len, Hex(apdu)),
         |(len, apdu), to, out| gorvisclen::command_extend(*len, to, apdu, out),
-        |(len, apdu), to_len| {
-            assert!(*len > to_len);
+        |(len, apdu), _| {
             let [cla, ins, p1, p2, _, _, expected, _] = by_rust(apdu)?.numbers;
             let left = Left::from([cla, ins, p1, p2, *len as u64, expected, 1]);
             Ok(Left { refused: Some(18), ..left })
@@ -139,6 +138,16 @@ pub struct Room {
     pub len: usize,
     owned: fn(&[u8]) -> Answer<OWNED_NUMBERS>,
     pub extended: fn(&mut Tally, usize, &[Piece]),
+}
+
+impl Room {
+    /// Extends a command that holds `len` bytes by a piece.
+    pub fn extend(&self, tally: &mut Tally, len: usize, piece: Piece) {
+        match len > self.len {
+            true => extend(len, piece.0, true).compare(tally, self.len, piece.1),
+            false => (self.extended)(tally, len, &[piece]),
+        }
+    }
 }
 
 const fn room<const S: usize>() -> Room {

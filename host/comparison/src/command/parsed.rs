@@ -10,14 +10,9 @@ pub struct Parsed<'a> {
     pub data: &'a [u8],
 }
 
+/// The number of a refusal: the Rust's errors are in the order of the numbers.
 pub fn refusal(error: FromSliceError) -> u8 {
-    match error {
-        FromSliceError::TooShort => 1,
-        FromSliceError::TooLong => 2,
-        FromSliceError::InvalidClass => 3,
-        FromSliceError::InvalidFirstBodyByteForExtended => 4,
-        FromSliceError::InvalidSliceLength => 5,
-    }
+    1 + error as u8
 }
 
 #[inline(always)]

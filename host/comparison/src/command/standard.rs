@@ -55,13 +55,12 @@ pub fn by_table(apdu: &[u8]) -> Result<Parsed<'_>, u8> {
     if cla == 0xFF {
         return Err(3);
     }
+    let [cla, ins, p1, p2] = [cla, ins, p1, p2].map(usize::from);
     for (operation, lc, le) in CASES {
         if let Some((nc, ne)) = of_case(body, lc, le) {
-            let header = [cla, ins, p1, p2].map(u64::from);
-            let lengths = [4 + lc, nc, ne].map(|n| n as u64);
-            let extended = lc > 1 || le > 1;
-            let numbers = [&header[..], &lengths, &[extended.into()]].concat();
-            return Ok(Parsed { operation, numbers: numbers.try_into().unwrap(), data: &body[lc..lc + nc] });
+            let extended = usize::from(lc > 1 || le > 1);
+            let numbers = [cla, ins, p1, p2, 4 + lc, nc, ne, extended].map(|n| n as u64);
+            return Ok(Parsed { operation, numbers, data: &body[lc..lc + nc] });
         }
     }
     Err(match *body {

@@ -39,26 +39,23 @@ pub fn around(inputs: &mut Inputs, n: usize) -> usize {
 
 /// A piece of a header with n data bytes, in one of the cases that there are for it.
 pub fn some_piece(inputs: &mut Inputs, header: [u8; 4], n: usize) -> Vec<u8> {
-    let mut piece = header.to_vec();
     let extended = n > 255 || inputs.below(4) == 0;
     let le = inputs.below(2) == 0;
-    match (n, extended) {
+    let lc: &[u8] = match (n, extended) {
         // An extended Lc of zero, or none.
-        (0, true) if le && inputs.below(2) == 0 => piece.extend([0, 0, 0]),
-        (0, true) if le => piece.push(0),
-        (0, _) => (),
-        (_, true) => piece.extend([0, (n >> 8) as u8, n as u8]),
-        (_, false) => piece.push(n as u8),
-    }
-    piece.extend(inputs.bytes(n));
-    if le {
-        let bytes = if extended { 2 } else { 1 };
-        match inputs.below(3) {
-            0 => piece.extend(vec![0; bytes]),
-            _ => piece.extend(inputs.bytes(bytes)),
-        }
-    }
-    piece
+        (0, true) if le && inputs.below(2) == 0 => &[0, 0, 0],
+        (0, true) if le => &[0],
+        (0, _) => &[],
+        (_, true) => &[0, (n >> 8) as u8, n as u8],
+        (_, false) => &[n as u8],
+    };
+    let data = inputs.bytes(n);
+    let le = match (le, 1 + usize::from(extended)) {
+        (false, _) => Vec::new(),
+        (true, len) if inputs.below(3) == 0 => vec![0; len],
+        (true, len) => inputs.bytes(len),
+    };
+    [&header[..], lc, &data, &le].concat()
 }
 
 /// A piece for a chain of a header, of which `free` bytes of the room are left: one of it, mostly, or any other.
