@@ -115,20 +115,12 @@ fn some_command(inputs: &mut Inputs, n: usize) -> Vec<u8> {
     written(&inputs.bytes(4), lc, &inputs.bytes(n), &le)
 }
 
-/// Every body of up to two bytes, behind several headers.
+/// Every body of up to two bytes, behind several headers, whole ones and parts of one.
 fn every_short_body(tally: &mut Tally, inputs: &mut Inputs) {
-    let headers: [&[u8]; 10] = [
-        &[0x00, 0xA4, 0x04, 0x00],
-        &[0x90, 0x61, 0xFF, 0x01],
-        &[0xFF, 0xA4, 0x04, 0x00],
-        &[0xFE, 0xFF, 0xFF, 0xFF],
-        &[],
-        &[0x00],
-        &[0xFF],
-        &[0x00, 0xA4],
-        &[0x00, 0xA4, 0x04],
-        &[0xFF, 0xFF, 0xFF],
-    ];
+    let whole =
+        [[0x00, 0xA4, 0x04, 0x00], [0x90, 0x61, 0xFF, 0x01], [0xFF, 0xA4, 0x04, 0x00], [0xFE, 0xFF, 0xFF, 0xFF]];
+    let parts: [&[u8]; 6] = [&[], &[0x00], &[0xFF], &[0x00, 0xA4], &[0x00, 0xA4, 0x04], &[0xFF, 0xFF, 0xFF]];
+    let headers = whole.iter().map(|header| &header[..]).chain(parts);
     for (header, body) in pairs(headers, up_to_two_bytes()) {
         let apdu = &[header, &body].concat();
         for reading in [CRATE_READING, STANDARD_READING] {
@@ -239,10 +231,7 @@ fn every_room(tally: &mut Tally, inputs: &mut Inputs) {
 
 /// Extension after extension, up to the room's end and past it; pieces that are refused lie between.
 fn chain(tally: &mut Tally, inputs: &mut Inputs, room: &Room) {
-    let start = match inputs.below(3) {
-        0 => inputs.below(room.len + 1),
-        _ => 0,
-    };
+    let start = if inputs.below(3) == 0 { inputs.below(room.len + 1) } else { 0 };
     let mut free = room.len - start;
     let mut apdus = Vec::new();
     for _ in 0..12 {
@@ -297,11 +286,8 @@ pub fn random_chain(tally: &mut Tally, inputs: &mut Inputs) {
     for apdu in some_apdus(inputs) {
         every_extension(tally, inputs, &apdu);
     }
-    let rooms = match inputs.below(100) {
-        0 => &ROOMS[..],
-        _ => &ROOMS[..SHORT_ROOMS],
-    };
-    let room = &rooms[inputs.below(rooms.len())];
+    let rooms = if inputs.below(100) == 0 { ROOMS.len() } else { SHORT_ROOMS };
+    let room = &ROOMS[inputs.below(rooms)];
     chain(tally, inputs, room);
 }
 

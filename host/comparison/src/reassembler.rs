@@ -41,15 +41,6 @@ fn any_record(inputs: &mut Inputs, header: [u8; 4], room_len: usize) -> Reassemb
     Reassembler { opened, header, held }
 }
 
-/// How many numbers are lent: enough, mostly.
-fn some_numbers(inputs: &mut Inputs, wanted: usize) -> usize {
-    match inputs.below(12) {
-        0 => inputs.below(wanted),
-        1 => wanted - 1,
-        n => wanted + n % 3,
-    }
-}
-
 /// A sequence of pieces in one room: resets between them, and records that no sequence of pieces gives.
 fn sequence(tally: &mut Tally, inputs: &mut Inputs, turn: usize) {
     let room_len = match turn % 100 {
@@ -75,7 +66,12 @@ fn sequence(tally: &mut Tally, inputs: &mut Inputs, turn: usize) {
                 // Where more is held than there is room, data for which the sum of both wraps, too.
                 let free = room_len.checked_sub(held).unwrap_or(300);
                 let piece = any_piece(inputs, header, free);
-                chain.join(tally, &piece, some_numbers(inputs, JOIN_NUMBERS));
+                let len = match inputs.below(12) {
+                    0 => inputs.below(JOIN_NUMBERS),
+                    1 => JOIN_NUMBERS - 1,
+                    n => JOIN_NUMBERS + n % 3,
+                };
+                chain.join(tally, &piece, len);
             }
         }
     }

@@ -74,10 +74,7 @@ pub fn parse(asked: Asked<'_>) -> impl Call<COMMAND_NUMBERS> + '_ {
 
 /// The data of a command, copied.
 pub fn data(asked: Asked<'_>) -> impl Call<1> + '_ {
-    let name = match asked.0 {
-        CRATE_READING => "CommandView::data",
-        _ => STANDARD_DATA,
-    };
+    let name = if asked.0 == CRATE_READING { "CommandView::data" } else { STANDARD_DATA };
     call(
         (name, &[]),
         asked,

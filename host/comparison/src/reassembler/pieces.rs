@@ -14,10 +14,8 @@ pub const HEADERS: [[u8; 4]; 5] = [
 
 /// A header of which a chain can be: neither 0xFF nor 0xEF is its class.
 pub fn some_header(inputs: &mut Inputs) -> [u8; 4] {
-    let header = match inputs.below(2) {
-        0 => inputs.one_of(&HEADERS),
-        _ => (inputs.number() as u32).to_be_bytes(),
-    };
+    let any = inputs.below(2) == 1;
+    let header = if any { (inputs.number() as u32).to_be_bytes() } else { inputs.one_of(&HEADERS) };
     match header[0] | BIT {
         0xFF => HEADERS[0],
         _ => header,
