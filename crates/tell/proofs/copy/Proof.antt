@@ -1,9 +1,7 @@
 use borrow.Author.Needs.{needs}
-use mathlib.Core.Path.{_≡_, _∙_}
-use mathlib.Core.Bool.{true}
+use mathlib.Core.Path.{_∙_}
 use mathlib.Core.List.{[], _∷_}
 use native.Mathlib.Omega.{arith}
-use lib.Dec.{ltb}
 use lib.ListN.{length}
 use borrow.Author.Tests.{lt-ltb, le-ltb}
 use Rattle.basis.proofs.Part.{copied, stored}
@@ -18,14 +16,15 @@ returns-2 : tie.Need-returns-2
 returns-2 c =
     let n = le-ltb _ _ (c .before .if1 .left) in
     let a = c .before .before .before .before .before .args in
-    let m : ltb (length (a .to .now)) (length (a .part .now)) ≡ true = lt-ltb _ _ (c .if2 .taken) in
+    let m = lt-ltb (length (a .to .now)) (length (a .part .now)) (omega (arith, c .if2 .taken)) in
     record { reply = rw (n, m); bytes = rw (n, m); told = rw (n, m) }
 
 returns-3 : tie.Need-returns-3
 returns-3 c =
     let k = c .before .before in
     let n = le-ltb _ _ (k .before .before .before .if1 .left) in
-    let m = le-ltb _ _ (k .before .before .if2 .left) in
+    let a = k .before .before .before .before .before .before .before .args in
+    let m = le-ltb (length (a .to .now)) (length (a .part .now)) (omega (arith, k .before .before .if2 .left)) in
     record {
       reply = rw (n, m);
       bytes = rw (n, m) (k .copy .ensures .1 ∙ copied _ _);

@@ -19,6 +19,9 @@ abbrev μ-loop : tie.MeasureT-loop
 returns : tie.Need-returns Inv-loop μ-loop
 returns c = answers-short _ _ _ (c .if1 .taken)
 
+loop-holds : tie.Need-loop-holds Inv-loop μ-loop
+loop-holds c = (refl, omega arith, refl)
+
 loop-again : tie.Need-loop-again Inv-loop μ-loop
 loop-again c =
     let l = c .before .before .loop in
@@ -39,7 +42,7 @@ tell-spec =
     Inv-loop
     μ-loop
     returns
-    (λ c. (refl, omega arith, refl))
+    loop-holds
     (λ c. search needs)
     (λ c. search needs)
     (λ c. search needs)
