@@ -1,4 +1,5 @@
--- `of_length` meets its contract: what the answer has of the length, and whether it is extended, are facts of their own. Assumes nothing.
+-- `of_length` meets its contract. The length of the answer, and that it is not extended, are facts of their own.
+-- Assumes nothing.
 use Prim.Native.Nat.{ℕ}
 use mathlib.Core.Path.{_≡_, refl}
 use mathlib.Core.Bool.{false}
