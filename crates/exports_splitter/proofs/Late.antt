@@ -5,14 +5,17 @@ use mathlib.Core.Bool.{Bool, true, false, cond}
 use mathlib.Core.List.{List}
 use mathlib.Core.Option.{Option, some}
 use native.Mathlib.Omega.{arith}
-use borrow.Author.Tests.{le-ltb}
+use borrow.Author.Tests.{le-ltb, ltb-false}
 use lib.Dec.{ltb, eqb}
 use lib.ListN.{length, take, drop, length-take, length-drop}
 use Rattle.basis.specs.Reply.{Reply, is, no, then}
 use Rattle.basis.proofs.Reply.{All, all-is, all-cond, all-then, all-self}
 use Rattle.tell.specs.Answers.{short}
+use Rattle.builder.specs.Builder.{newOf}
 use Rattle.builder.specs.Bytes.{commandOf, serializeOf}
 use Rattle.builder.specs.declared.CommandBuilder.{CommandBuilder}
+use Rattle.builder.specs.declared.ExpectedLen.the-variants.{Ne}
+use Rattle.builder.specs.declared.ExtendedLen.the-variants.{Unsupported}
 use Rattle.splitter.specs.Step.{stepOf}
 use Rattle.splitter.specs.Pieces.{chainOf, placeIn, pieceBy, leftOf, writing, writeOf}
 use Rattle.splitter.specs.declared.step.Split.{Split}
@@ -20,10 +23,10 @@ use Rattle.splitter.specs.declared.pieces.Left.{Left}
 use Rattle.splitter.specs.declared.pieces.Piece.{Piece}
 use Rattle.splitter.specs.declared.pieces.Pieces.{Pieces}
 use Rattle.splitter.specs.declared.pieces.Pieces.the-variants as pieces
+use Rattle.builder_laws.proofs.Made.{new-made}
 use Rattle.splitter.proofs.Inside.{left-by}
-use Rattle.splitter_laws.proofs.Cut.{never-refused}
-use Rattle.splitter_laws.proofs.Chain.{chain-made}
-use Rattle.exports_splitter.specs.Numbers.{chainNumbered}
+use Rattle.splitter.proofs.Steps.{never-refused}
+use Rattle.exports_splitter.specs.Numbers.{fromPlace, chainNumbered}
 
 -- a value, or 16
 abbrev pub Late : {A : Type 0} → Reply A → Type 0
@@ -82,15 +85,27 @@ late-good : (d : List ℕ) (m at : ℕ) (x : Pieces) → Good d x → Late (writ
 late-good d m at (pieces.Left l) h = late-next d (h .0) m at (leftOf l d) (late-left d (h .0) l (h .1))
 late-good d m at pieces.Done h = tt
 
-module _ (c i p q e m place done : ℕ) (d : List ℕ) where
-  all-good : All (Good d) (chainNumbered c i p q e m place done d)
-  unfolding chainNumbered
-  all-good =
-      let made = chainOf c i p q (length d) e m in
-      all-cond (Good d) (eqb done 0) _ _
-      (λ _. all-then (Good d) (λ x. made ≡ is x) made _ (all-self made) (λ x h.
-      let g = chain-made c i p q (length d) e m x h in rw (g .start) (g .few, g .ten)))
-      (λ _. tt)
+-- at any place of the data
+good-from : (place : ℕ) (d : List ℕ) (x : Pieces) → Good d x → Good d (fromPlace place x)
+good-from place d (pieces.Left l) h = h
+good-from place d pieces.Done h = tt
 
-  pub late : (x : Pieces) → chainNumbered c i p q e m place done d ≡ is x → (n at : ℕ) → Late (writeOf x d n at)
-  late x h n at = late-good d n at x (all-is (Good d) (chainNumbered c i p q e m place done d) x all-good h)
+module _ (c i p q e m : ℕ) (d : List ℕ) where
+  good-made : All (Good d) (chainOf c i p q (length d) e m)
+  unfolding chainOf
+  good-made =
+      let new = newOf c i p q (length d) (Ne e) Unsupported in
+      all-then (Good d) (λ b. new ≡ is b) new _ (all-self new) (λ b h.
+      all-cond (Good d) (ltb m 10) _ _ (λ _. tt) (λ g.
+      (new-made c i p q (length d) (Ne e) Unsupported b h .few, ltb-false m 10 g)))
+
+  module _ (place done : ℕ) where
+    all-good : All (Good d) (chainNumbered c i p q e m place done d)
+    unfolding chainNumbered
+    all-good =
+        all-cond (Good d) (eqb done 0) _ _
+        (λ _. all-then (Good d) (Good d) (chainOf c i p q (length d) e m) _ good-made (λ x h. good-from place d x h))
+        (λ _. tt)
+
+    pub late : (x : Pieces) → chainNumbered c i p q e m place done d ≡ is x → (n at : ℕ) → Late (writeOf x d n at)
+    late x h n at = late-good d n at x (all-is (Good d) (chainNumbered c i p q e m place done d) x all-good h)

@@ -1,21 +1,42 @@
--- The replies of one step, case by case. Assumes nothing.
-use Prim.Native.Nat.{ℕ, _≤_, _<_}
-use mathlib.Core.Path.{_≡_, _∙_}
+-- The replies of one step, case by case. With a buffer of ten bytes and at most 65,535 data bytes none is a refusal. Assumes nothing.
+use Prim.Native.Nat.{ℕ, _+_, _-_, _≤_, _<_, min}
+use mathlib.Core.Path.{_≡_, refl, sym, _∙_}
 use mathlib.Core.Option.{none, some}
+use native.Mathlib.Decide.{decLe}
+use native.Mathlib.Omega.{arith}
 use borrow.Author.Tests.{lt-ltb, le-ltb, le-leb, lt-leb, eq-eqb, ne-eqb}
-use Rattle.basis.specs.Reply.{is, no}
+use Rattle.basis.specs.Reply.{is, no as refused}
+use Rattle.basis.proofs.Reply.{no-is}
 use Rattle.builder.specs.declared.CommandBuilder.{CommandBuilder}
+use Rattle.builder.specs.declared.ExtendedLen.{ExtendedLen}
+use Rattle.builder.specs.declared.ExtendedLen.the-variants.{Unsupported, Supported, Forced}
 use Rattle.builder.proofs.Data.{too-many, few}
-use Rattle.builder.specs.Bytes.{loweredOf}
-use Rattle.splitter.specs.Step.{roomOf, firstOf, stepOf}
+use Rattle.builder.proofs.Lengths.{lengths-few}
+use Rattle.builder.specs.Bytes.{loweredOf, lcLen, leLen}
+use Rattle.splitter.specs.Step.{most, roomIn, roomOf, firstOf, stepOf}
+
+-- a part may have 255 data bytes in every mode
+most-some : (m : ExtendedLen) → 255 ≤ most m
+most-some Unsupported = omega arith
+most-some Supported = omega arith
+most-some Forced = omega arith
 
 module _ (b : CommandBuilder) (n m : ℕ) where
-  pub step-long : 65535 < n → stepOf b n m ≡ no 13
+  -- the room beside header, Lc and Le
+  pub room-is : roomOf b n m ≡ min (m - (4 + lcLen b n + leLen b n)) (most (b .mode))
+  unfolding roomOf roomIn
+  room-is = refl
+
+  -- it is not empty in ten bytes
+  pub room-some : 10 ≤ m → 1 ≤ roomOf b n m
+  room-some h = rw room-is (omega (arith, lengths-few b n, most-some (b .mode)))
+
+  pub step-long : 65535 < n → stepOf b n m ≡ refused 13
   unfolding stepOf
   step-long h = too-many n _ h
 
   module _ (h : n ≤ 65535) where
-    pub step-small : m < 4 → stepOf b n m ≡ no 14
+    pub step-small : m < 4 → stepOf b n m ≡ refused 14
     unfolding stepOf
     step-small g = few n _ h ∙ rw (lt-ltb m 4 g)
 
@@ -25,7 +46,7 @@ module _ (b : CommandBuilder) (n m : ℕ) where
       step-whole f = few n _ h ∙ rw (le-ltb m 4 g, le-leb n (roomOf b n m) f)
 
       module _ (f : roomOf b n m < n) where
-        pub step-no-room : roomOf b n m ≡ 0 → stepOf b n m ≡ no 14
+        pub step-no-room : roomOf b n m ≡ 0 → stepOf b n m ≡ refused 14
         unfolding stepOf
         step-no-room e = few n _ h ∙ rw (le-ltb m 4 g, lt-leb n (roomOf b n m) f, eq-eqb (roomOf b n m) 0 e)
 
@@ -33,3 +54,11 @@ module _ (b : CommandBuilder) (n m : ℕ) where
             → stepOf b n m ≡ is (some (record { now = firstOf b; len = roomOf b n m; later = loweredOf b }))
         unfolding stepOf
         step-split e = few n _ h ∙ rw (le-ltb m 4 g, lt-leb n (roomOf b n m) f, ne-eqb (roomOf b n m) 0 e)
+
+  -- no step is refused, whatever the mode, class and expected length are, and however much of the data is left
+  pub never-refused : 10 ≤ m → n ≤ 65535 → (k : ℕ) → stepOf b n m ≡ refused k → ⊥
+  never-refused ten few k e =
+      elim (decLe n (roomOf b n m)) [
+        | yes h ↦ no-is k none (sym e ∙ step-whole few (omega arith) h)
+        | no h ↦ no-is k _ (sym e ∙ step-split few (omega arith) (omega arith) (λ z. omega (arith, room-some ten)))
+      ]

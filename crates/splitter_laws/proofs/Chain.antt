@@ -97,7 +97,7 @@ module _ (d : List ℕ) (m : ℕ) (few : length d ≤ 65535) (ten : 10 ≤ m) (b
         rw (
           le-ltb 65535 (length d) few,
           min-eq-left inside,
-          step-split b n m (omega (arith, length-drop at d)) (omega arith) (omega arith) (omega arith),
+          step-split b n m (omega (arith, length-drop at d)) (omega arith) (omega arith) (λ z. omega arith),
           e,
         )
 

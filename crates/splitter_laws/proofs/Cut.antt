@@ -1,57 +1,24 @@
--- One step of splitting, and the parts of a command step after step. With a buffer of ten bytes and at most 65,535 data bytes no
--- step is refused. Assumes nothing.
-use Prim.Native.Nat.{ℕ, zero, suc, _+_, _-_, _≤_, _<_, min}
-use mathlib.Core.Path.{_≡_, refl, sym, ap, _∙_}
+-- What a step of splitting replies, and the parts of a command step after step. Assumes nothing.
+use Prim.Native.Nat.{ℕ, zero, suc, _≤_, _<_}
+use mathlib.Core.Path.{_≡_, refl, ap, _∙_}
 use mathlib.Core.List.{List, [], _∷_}
 use mathlib.Core.Option.{Option, none, some}
 use native.Mathlib.Decide.{decLe}
 use native.Mathlib.Omega.{arith}
-use borrow.Author.Tests.{le-leb, lt-leb, lt-ltb, le-ltb, ne-eqb, eqb-false, leb-true, leb-false}
+use borrow.Author.Tests.{eqb-false, leb-true, leb-false}
 use lib.Dec.{ltb, leb, eqb}
 use lib.ListN.{length, take, drop, length-drop}
 use Rattle.basis.specs.Reply.{Reply, is, no as refused}
-use Rattle.basis.proofs.Reply.{no-is, All, all-is, all-cond}
-use Rattle.builder.specs.Bytes.{loweredOf, lcLen, leLen}
+use Rattle.basis.proofs.Reply.{All, all-is, all-cond}
+use Rattle.builder.specs.Bytes.{loweredOf}
 use Rattle.builder.specs.declared.CommandBuilder.{CommandBuilder}
-use Rattle.builder.specs.declared.ExtendedLen.{ExtendedLen}
-use Rattle.builder.specs.declared.ExtendedLen.the-variants.{Unsupported, Supported, Forced}
-use Rattle.builder.proofs.Lengths.{lengths-few}
-use Rattle.splitter.specs.Step.{most, roomIn, roomOf, firstOf, stepOf}
+use Rattle.splitter.specs.Step.{roomOf, firstOf, stepOf}
 use Rattle.splitter.specs.Pieces.{Part, partsBy, partsIn, parts}
 use Rattle.splitter.specs.declared.step.Split.{Split}
+pub use Rattle.splitter.proofs.Steps.{room-is, room-some, step-whole, step-split, never-refused}
 use Rattle.splitter_laws.specs.Cut.{splitOf, Stepped}
 
--- a part may have 255 data bytes in every mode
-most-some : (m : ExtendedLen) → 255 ≤ most m
-most-some Unsupported = omega arith
-most-some Supported = omega arith
-most-some Forced = omega arith
-
 module _ (b : CommandBuilder) (n m : ℕ) where
-  -- the room beside header, Lc and Le
-  pub room-is : roomOf b n m ≡ min (m - (4 + lcLen b n + leLen b n)) (most (b .mode))
-  unfolding roomOf roomIn
-  room-is = refl
-
-  -- it is not empty in ten bytes
-  pub room-some : 10 ≤ m → 1 ≤ roomOf b n m
-  room-some h = rw room-is (omega (arith, lengths-few b n, most-some (b .mode)))
-
-  -- a step, by its cases
-  pub step-long : 65535 < n → stepOf b n m ≡ refused 13
-  unfolding stepOf
-  step-long h = rw (lt-ltb 65535 n h)
-
-  module _ (few : n ≤ 65535) (four : 4 ≤ m) where
-    pub step-whole : n ≤ roomOf b n m → stepOf b n m ≡ is none
-    unfolding stepOf
-    step-whole h = rw (le-ltb 65535 n few, le-ltb m 4 four, le-leb n (roomOf b n m) h)
-
-    pub step-split : 1 ≤ roomOf b n m → roomOf b n m < n → stepOf b n m ≡ is (some (splitOf b n m))
-    unfolding stepOf
-    step-split g h =
-        rw (le-ltb 65535 n few, le-ltb m 4 four, lt-leb n (roomOf b n m) h, ne-eqb (roomOf b n m) 0 (omega arith))
-
   -- what a step that is not refused replies
   pub stepped : All (Stepped b n m) (stepOf b n m)
   unfolding stepOf
@@ -64,14 +31,6 @@ module _ (b : CommandBuilder) (n m : ℕ) where
         fewer = leb-false n (roomOf b n m) h;
         split = refl;
       }))))
-
-  -- no step is refused, whatever the mode, class and expected length are, and however much of the data is left
-  pub never-refused : 10 ≤ m → n ≤ 65535 → (k : ℕ) → stepOf b n m ≡ refused k → ⊥
-  never-refused ten few k e =
-      elim (decLe n (roomOf b n m)) [
-        | yes h ↦ no-is k none (sym e ∙ step-whole few (omega arith) h)
-        | no h ↦ no-is k (some (splitOf b n m)) (sym e ∙ step-split few (omega arith) (room-some ten) (omega arith))
-      ]
 
 -- what comes of a step depends on what comes of the rest only
 parts-same : (b : CommandBuilder) (d : List ℕ) (x : Reply (Option Split)) (f g : CommandBuilder → List ℕ → List Part)
@@ -133,7 +92,7 @@ module _ (m : ℕ) (ten : 10 ≤ m) (P : CommandBuilder → List ℕ → List Pa
             let some = room-some b n m ten in
             let left = length-drop r d in
             let rest = cut-in k (loweredOf b) (drop r d) (omega arith) (omega arith) in
-            rw (parts-split b d m (splitOf b n m) (step-split b n m few (omega arith) some (omega arith)))
+            rw (parts-split b d m (splitOf b n m) (step-split b n m few (omega arith) (omega arith) (λ z. omega arith)))
             (split b d r (parts (loweredOf b) (drop r d) m) refl some (omega arith) rest)
       ]
 
