@@ -1,4 +1,8 @@
 // The exported functions by the numbers that the file has for them, with the parameters in their order.
+use crate::input::byte;
+use crate::input::less;
+use crate::input::number;
+use crate::input::numbers;
 use exports_aid::gorvisclen_aid;
 use exports_aid::gorvisclen_aid_matches;
 use exports_aid::gorvisclen_aid_part;
@@ -25,158 +29,182 @@ use exports_tlv::gorvisclen_take_tag;
 use exports_tlv::gorvisclen_value;
 use exports_write::gorvisclen_put_data_object;
 
-fn low(n: u32) -> u8 {
-    (n % 0x100) as u8
+// What a builder is made of, besides its data.
+struct OfBuilder {
+    class: u8,
+    instruction: u8,
+    p1: u8,
+    p2: u8,
+    le: u32,
+    mode: u8,
 }
 
-fn word(n: u32) -> u16 {
-    (n % 0x10000) as u16
+// What a chain is made of, besides its data.
+struct OfChain {
+    class: u8,
+    instruction: u8,
+    p1: u8,
+    p2: u8,
+    le: u16,
+    available: usize,
 }
 
-fn wide(n: u32) -> usize {
-    n as usize
+// The next number, of which only the last byte is not 0.
+fn low() -> u8 {
+    number(2);
+    byte()
 }
 
-// The tags of a path: the numbers from the third on.
-fn tags<'a>(n: &'a [u32; 16], count: usize) -> &'a [u32] {
-    let all = &n[..];
-    if count < 2 {
-        return &all[..0];
-    }
-    if all.len() < count {
-        return &all[..0];
-    }
-    &all[2..count]
-}
-
-fn class(operation: u8, n: &[u32; 16], out: &mut [u64]) -> u8 {
-    match operation {
-        1 => gorvisclen_class(low(n[1]), out),
-        2 => gorvisclen_class_as_chained(low(n[1]), out),
-        3 => gorvisclen_range(low(n[1]), out),
-        _ => gorvisclen_class_constants(out),
-    }
-}
-
-fn aid(
-    operation: u8,
-    name: &[u8],
-    asked: &[u8],
-    n: &[u32; 16],
-    to: &mut [u8],
-    out: &mut [u64],
-) -> u8 {
-    match operation {
-        5 => gorvisclen_aid_whole(name, out),
-        6 => gorvisclen_aid(name, wide(n[1]), out),
-        7 => gorvisclen_aid_matches(name, wide(n[1]), asked, out),
-        _ => gorvisclen_aid_part(name, wide(n[1]), low(n[2]), to, out),
+fn builder() -> OfBuilder {
+    OfBuilder {
+        class: low(),
+        instruction: low(),
+        p1: low(),
+        p2: low(),
+        le: number(3) as u32,
+        mode: low(),
     }
 }
 
-fn front(operation: u8, bytes: &[u8], n: &[u32; 16], out: &mut [u64]) -> u8 {
-    match operation {
-        9 => gorvisclen_take_tag(low(n[1]), bytes, out),
-        10 => gorvisclen_take_len(low(n[1]), bytes, out),
-        _ => gorvisclen_take_data_object(low(n[1]), bytes, out),
+fn chain() -> OfChain {
+    OfChain {
+        class: low(),
+        instruction: low(),
+        p1: low(),
+        p2: low(),
+        le: (number(3) % 0x10000) as u16,
+        available: number(3),
     }
 }
 
-fn record(
-    operation: u8,
-    bytes: &[u8],
-    path: &[u32],
-    n: &[u32; 16],
-    to: &mut [u8],
-    out: &mut [u64],
-) -> u8 {
-    match operation {
-        12 => gorvisclen_get_data_object(low(n[1]), bytes, path, out),
-        13 => gorvisclen_value(low(n[1]), bytes, path, to, out),
-        _ => gorvisclen_put_data_object(
-            low(n[1]),
-            low(n[2]),
-            low(n[3]),
-            bytes,
-            to,
-            wide(n[4]),
-            out,
-        ),
+// The tags of a path, so many.
+fn path<'a>(tags: &'a [u32; 16], count: usize) -> &'a [u32] {
+    let all = &tags[..];
+    if count < all.len() {
+        return &all[0..count];
     }
+    all
 }
 
-fn command(operation: u8, apdu: &[u8], n: &[u32; 16], to: &mut [u8], out: &mut [u64]) -> u8 {
-    match operation {
-        15 => gorvisclen_command(low(n[1]), apdu, out),
-        16 => gorvisclen_command_data(low(n[1]), apdu, to, out),
-        17 => gorvisclen_command_owned(low(n[1]), apdu, to, out),
-        _ => gorvisclen_command_extend(wide(n[1]), to, apdu, out),
+// The operations with a path, of so many tags.
+fn look(operation: u8, count: usize, record: &[u8], to: &mut [u8], out: &mut [u64]) -> u8 {
+    let reading = low();
+    let mut tags = [0u32; 16];
+    numbers(&mut tags, count);
+    if operation == 12 {
+        return gorvisclen_get_data_object(reading, record, path(&tags, count), out);
     }
+    gorvisclen_value(reading, record, path(&tags, count), to, out)
 }
 
-fn builder(
-    operation: u8,
-    data: &[u8],
-    apdu: &[u8],
-    n: &[u32; 16],
-    to: &mut [u8],
-    out: &mut [u64],
-) -> u8 {
-    let a = low(n[1]);
-    let b = low(n[2]);
-    let c = low(n[3]);
-    let d = low(n[4]);
-    match operation {
-        19 => gorvisclen_required_len(a, b, c, d, n[5], low(n[6]), data, out),
-        20 => gorvisclen_force_extended(a, b, c, d, n[5], low(n[6]), data, out),
-        21 => gorvisclen_builder_eq(a, b, c, d, n[5], low(n[6]), data, apdu, out),
-        _ => gorvisclen_serialize_into(a, b, c, d, n[5], low(n[6]), data, to, wide(n[7]), out),
-    }
-}
-
-fn cut(operation: u8, data: &[u8], n: &[u32; 16], to: &mut [u8], out: &mut [u64]) -> u8 {
-    let a = low(n[1]);
-    let b = low(n[2]);
-    let c = low(n[3]);
-    let d = low(n[4]);
-    match operation {
-        23 => gorvisclen_should_split(a, b, c, d, n[5], low(n[6]), data, wide(n[7]), out),
-        24 => gorvisclen_new_non_extended(a, b, c, d, data, word(n[5]), wide(n[6])),
-        _ => gorvisclen_write_next(
-            a,
-            b,
-            c,
-            d,
-            word(n[5]),
-            wide(n[6]),
-            wide(n[7]),
-            low(n[8]),
-            data,
-            to,
-            wide(n[9]),
-            out,
-        ),
-    }
-}
-
-// Calls an operation with two strings and so many numbers; replies what it replies, or 255 where there is no such operation.
+// Calls an operation with two strings and the next numbers of the file, so many; replies what it replies, or 255 where there is no such
+// operation.
 pub(crate) fn call(
     operation: u8,
+    count: usize,
     first: &[u8],
     second: &[u8],
-    n: &[u32; 16],
-    count: usize,
     to: &mut [u8],
     out: &mut [u64],
 ) -> u8 {
     match operation {
-        1..=4 => class(operation, n, out),
-        5..=8 => aid(operation, first, second, n, to, out),
-        9..=11 => front(operation, first, n, out),
-        12..=14 => record(operation, first, tags(n, count), n, to, out),
-        15..=18 => command(operation, first, n, to, out),
-        19..=22 => builder(operation, first, second, n, to, out),
-        23..=25 => cut(operation, first, n, to, out),
+        1 => gorvisclen_class(low(), out),
+        2 => gorvisclen_class_as_chained(low(), out),
+        3 => gorvisclen_range(low(), out),
+        4 => gorvisclen_class_constants(out),
+        5 => gorvisclen_aid_whole(first, out),
+        6 => gorvisclen_aid(first, number(3), out),
+        7 => gorvisclen_aid_matches(first, number(3), second, out),
+        8 => gorvisclen_aid_part(first, number(3), low(), to, out),
+        9 => gorvisclen_take_tag(low(), first, out),
+        10 => gorvisclen_take_len(low(), first, out),
+        11 => gorvisclen_take_data_object(low(), first, out),
+        12 | 13 => look(operation, less(count, 1), first, to, out),
+        14 => gorvisclen_put_data_object(low(), low(), low(), first, to, number(3), out),
+        15 => gorvisclen_command(low(), first, out),
+        16 => gorvisclen_command_data(low(), first, to, out),
+        17 => gorvisclen_command_owned(low(), first, to, out),
+        18 => gorvisclen_command_extend(number(3), to, first, out),
+        19 => {
+            let b = builder();
+            gorvisclen_required_len(b.class, b.instruction, b.p1, b.p2, b.le, b.mode, first, out)
+        }
+        20 => {
+            let b = builder();
+            gorvisclen_force_extended(b.class, b.instruction, b.p1, b.p2, b.le, b.mode, first, out)
+        }
+        21 => {
+            let b = builder();
+            gorvisclen_builder_eq(
+                b.class,
+                b.instruction,
+                b.p1,
+                b.p2,
+                b.le,
+                b.mode,
+                first,
+                second,
+                out,
+            )
+        }
+        22 => {
+            let b = builder();
+            gorvisclen_serialize_into(
+                b.class,
+                b.instruction,
+                b.p1,
+                b.p2,
+                b.le,
+                b.mode,
+                first,
+                to,
+                number(3),
+                out,
+            )
+        }
+        23 => {
+            let b = builder();
+            gorvisclen_should_split(
+                b.class,
+                b.instruction,
+                b.p1,
+                b.p2,
+                b.le,
+                b.mode,
+                first,
+                number(3),
+                out,
+            )
+        }
+        24 => {
+            let c = chain();
+            gorvisclen_new_non_extended(
+                c.class,
+                c.instruction,
+                c.p1,
+                c.p2,
+                first,
+                c.le,
+                c.available,
+            )
+        }
+        25 => {
+            let c = chain();
+            gorvisclen_write_next(
+                c.class,
+                c.instruction,
+                c.p1,
+                c.p2,
+                c.le,
+                c.available,
+                number(3),
+                low(),
+                first,
+                to,
+                number(3),
+                out,
+            )
+        }
         _ => 255,
     }
 }

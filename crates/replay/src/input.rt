@@ -1,61 +1,115 @@
-// The file, read by place. A place past its end reads as 0, so that a file cut short or changed is read to an end too.
-ghost use Prim.Native.Nat.{_<_};
+// The file, read as it goes. Behind its end there are zeros, so that a file cut short or changed is read to an end too.
+ghost use Prim.Native.Nat.{_<_, _≤_};
+ghost use mathlib.Core.Path.{_≡_};
+ghost use lib.ListN.{length};
 
-// A byte.
-pub(crate) fn byte(s: &[u8], at: usize) -> u8 {
-    if at < s.len() {
-        return s[at];
+// Zeros, enough for the longest string and for what is lent with it.
+pub(crate) fn space() -> [u8; 65600]
+    ensures { λ r. ⌜ 65600 ≡ length r ⌝ }
+{
+    [0; 65600]
+}
+
+// So many less, or none.
+pub(crate) fn less(n: usize, k: usize) -> usize
+    ensures { λ r. ⌜ r ≤ n ⌝ }
+{
+    if n < k {
+        return 0;
     }
-    0
+    n - k
 }
 
-// A place so many bytes behind another, at most a million: no file is so long.
-pub(crate) fn behind(at: usize, n: usize) -> usize {
-    if at < 1000000 {
-        if n < 1000000 {
-            return at + n;
-        }
-    }
-    1000000
+// The next byte.
+pub(crate) fn byte() -> u8 {
+    let mut b = [0u8; 1];
+    io::read_full(0, &mut b);
+    b[0]
 }
 
-// A number with one more byte behind it.
-fn shifted(high: usize, low: u8) -> usize
+// The next number, of so many bytes, at most four.
+pub(crate) fn number(bytes: usize) -> usize
     ensures { λ r. ⌜ r < 0x100000000 ⌝ }
 {
-    high % 0x1000000 * 256 + low as usize
-}
-
-// Numbers of one to three bytes.
-pub(crate) fn one(s: &[u8], at: usize) -> usize
-    ensures { λ r. ⌜ r < 0x100000000 ⌝ }
-{
-    shifted(0, byte(s, at))
-}
-
-pub(crate) fn two(s: &[u8], at: usize) -> usize
-    ensures { λ r. ⌜ r < 0x100000000 ⌝ }
-{
-    shifted(one(s, at), byte(s, behind(at, 1)))
-}
-
-pub(crate) fn three(s: &[u8], at: usize) -> usize
-    ensures { λ r. ⌜ r < 0x100000000 ⌝ }
-{
-    shifted(two(s, at), byte(s, behind(at, 2)))
-}
-
-// The numbers of three bytes from a place on, at most 16; says how many there are.
-pub(crate) fn numbers(s: &[u8], from: usize, to: &mut [u32; 16]) -> usize {
-    let mut at = from;
+    let mut n = 0;
     let mut i = 0;
-    while i < 16 {
-        if s.len() <= at {
-            return i;
-        }
-        to[i] = three(s, at) as u32;
-        at = behind(at, 3);
+    while i < bytes {
+        n = n % 0x1000000 * 256 + byte() as usize;
         i += 1;
     }
-    16
+    n
+}
+
+// The next bytes, so many, read to a place, where there is room for them; says which place is behind those that there are.
+pub(crate) fn read(to: &mut [u8], at: usize, n: usize) -> usize {
+    let room = to.len();
+    if at <= room {
+        if n <= room - at {
+            let end = at + n;
+            return at + io::read_full(0, &mut to[at..end]);
+        }
+    }
+    at
+}
+
+// So many bytes from a place on, each a step above the one before; says which place is behind them.
+fn filled(to: &mut [u8], from: usize, n: usize, first: u8, step: u8) -> usize {
+    let mut at = from;
+    let mut b = first;
+    let mut left = n;
+    while at < to.len() {
+        if left == 0 {
+            return at;
+        }
+        to[at] = b;
+        b = std::num::wrapping_add_u8(b, step);
+        left -= 1;
+        at += 1;
+    }
+    at
+}
+
+// A string: its length, and how many bytes it takes in the file.
+pub(crate) struct Laid {
+    pub(crate) len: usize,
+    pub(crate) taken: usize,
+}
+
+// A string with a filling.
+fn with_filling(to: &mut [u8]) -> Laid {
+    let n = number(3);
+    let first = byte();
+    let step = byte();
+    let front = byte() as usize;
+    let back = byte() as usize;
+    let at = read(to, 0, front);
+    let at = filled(to, at, n, first, step);
+    Laid {
+        len: read(to, at, back),
+        taken: 8 + front + back,
+    }
+}
+
+// The next string, laid out.
+pub(crate) fn string(to: &mut [u8]) -> Laid {
+    let n = byte() as usize;
+    if n == 255 {
+        return with_filling(to);
+    }
+    Laid {
+        len: read(to, 0, n),
+        taken: 1 + n,
+    }
+}
+
+// The next so many numbers of three bytes, at most 16.
+pub(crate) fn numbers(to: &mut [u32; 16], count: usize) {
+    let mut i = 0;
+    while i < 16 {
+        if count <= i {
+            return;
+        }
+        to[i] = number(3) as u32;
+        i += 1;
+    }
 }

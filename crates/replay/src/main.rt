@@ -17,11 +17,8 @@ mod answer;
 mod calls;
 mod input;
 mod report;
-mod strings;
 mod walk;
 
 fn main() {
-    let mut file = [0u8; 460000];
-    let n = io::read_full(0, &mut file);
-    walk::replay(&file[..n]);
+    walk::replay();
 }

@@ -1,7 +1,6 @@
 -- It ends: each turn takes a number. Assumes nothing.
 use borrow.Author.Needs.{needs}
 use Prim.Native.Nat.{_-_}
-use lib.ListN.{length}
 use Rattle.replay.proofs.answer.numbers_mixed.Statement.{statement}
 use Rattle.replay.proofs.answer.numbers_mixed.Tie as tie
 
@@ -9,7 +8,7 @@ abbrev Inv-loop : tie.InvT-loop
 Inv-loop before out sum₀ i₀ sum i = Unit {0}
 
 abbrev μ-loop : tie.MeasureT-loop
-μ-loop before out sum₀ i₀ sum i = length out - i
+μ-loop before out sum₀ i₀ sum i = 16 - i
 
 pub numbers-mixed-spec : {M : Type 1} → statement M
 numbers-mixed-spec =

@@ -5,10 +5,10 @@ use Rattle.replay.proofs.input.numbers.Statement.{statement}
 use Rattle.replay.proofs.input.numbers.Tie as tie
 
 abbrev Inv-loop : tie.InvT-loop
-Inv-loop s from to₀ at₀ i₀ to at i = Unit {0}
+Inv-loop to₀ count i₀ to i = Unit {0}
 
 abbrev μ-loop : tie.MeasureT-loop
-μ-loop s from to₀ at₀ i₀ to at i = 16 - i
+μ-loop to₀ count i₀ to i = 16 - i
 
 pub numbers-spec : {M : Type 1} → statement M
 numbers-spec =
@@ -22,7 +22,6 @@ numbers-spec =
     (λ c. search needs)
     (λ c. search needs)
     (λ c. search needs)
-    (λ c κs. search needs)
     (λ c. search needs)
     (λ c. search needs)
     (λ c. search needs)

@@ -5,10 +5,10 @@ use Rattle.replay.proofs.walk.answers.Statement.{statement}
 use Rattle.replay.proofs.walk.answers.Tie as tie
 
 abbrev Inv-loop : tie.InvT-loop
-Inv-loop operation file place count tally₀ turn₀ tally turn = Unit {0}
+Inv-loop operation count tally₀ turn₀ tally turn = Unit {0}
 
 abbrev μ-loop : tie.MeasureT-loop
-μ-loop operation file place count tally₀ turn₀ tally turn = count - turn
+μ-loop operation count tally₀ turn₀ tally turn = count - turn
 
 pub answers-spec : {M : Type 1} → statement M
 answers-spec =

@@ -1,19 +1,17 @@
 -- It ends: each turn takes a number. Assumes nothing.
 use borrow.Author.Needs.{needs}
 use Prim.Native.Nat.{_-_}
-use mathlib.Core.Path.{_≡_}
-use lib.ListN.{length}
-use Rattle.replay.proofs.answer.numbers.Statement.{statement}
-use Rattle.replay.proofs.answer.numbers.Tie as tie
+use Rattle.replay.proofs.answer.told.Statement.{statement}
+use Rattle.replay.proofs.answer.told.Tie as tie
 
 abbrev Inv-loop : tie.InvT-loop
-Inv-loop found₀ from out count at₀ i₀ found at i = length found ≡ length found₀
+Inv-loop before answer out count ok₀ i₀ ok i = Unit {0}
 
 abbrev μ-loop : tie.MeasureT-loop
-μ-loop found₀ from out count at₀ i₀ found at i = length out - i
+μ-loop before answer out count ok₀ i₀ ok i = 16 - i
 
-pub numbers-spec : {M : Type 1} → statement M
-numbers-spec =
+pub told-spec : {M : Type 1} → statement M
+told-spec =
     tie.close
     (tie.spec
     Inv-loop
@@ -21,10 +19,10 @@ numbers-spec =
     (λ c. search needs)
     (λ c. search needs)
     (λ c. search needs)
+    (λ c κs. search needs)
     (λ c. search needs)
     (λ c. search needs)
     (λ c κs. search needs)
-    (λ c. search needs)
     (λ c. search needs)
     (λ c. search needs)
     (λ c. search needs)
