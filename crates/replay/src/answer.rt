@@ -67,7 +67,8 @@ fn told(before: bool, answer: usize, out: &[u64; 16], count: usize) -> bool {
     ok
 }
 
-// Reads the next answer, and replies 0 where it is this one, 1 where it differs, and 2 where the file does not have all of it.
+// Reads the next answer, and replies 0 where it is this one, 1 where it differs, and 2 where the file does not have
+// all of it.
 pub(crate) fn heard(answer: usize, reply: u8, to: &[u8], out: &[u64; 16]) -> u8 {
     let count = input::less(number(1), 5) / 3;
     let ok = same(true, answer, 0, number(1) as u64, wide(reply));

@@ -29,24 +29,13 @@ use exports_tlv::gorvisclen_take_tag;
 use exports_tlv::gorvisclen_value;
 use exports_write::gorvisclen_put_data_object;
 
-// What a builder is made of, besides its data.
-struct OfBuilder {
+// What a builder and a chain are made of, first.
+struct Head {
     class: u8,
     instruction: u8,
     p1: u8,
     p2: u8,
     le: u32,
-    mode: u8,
-}
-
-// What a chain is made of, besides its data.
-struct OfChain {
-    class: u8,
-    instruction: u8,
-    p1: u8,
-    p2: u8,
-    le: u16,
-    available: usize,
 }
 
 // The next number, of which only the last byte is not 0.
@@ -55,26 +44,18 @@ fn low() -> u8 {
     byte()
 }
 
-fn builder() -> OfBuilder {
-    OfBuilder {
+fn start() -> Head {
+    Head {
         class: low(),
         instruction: low(),
         p1: low(),
         p2: low(),
         le: number(3) as u32,
-        mode: low(),
     }
 }
 
-fn chain() -> OfChain {
-    OfChain {
-        class: low(),
-        instruction: low(),
-        p1: low(),
-        p2: low(),
-        le: (number(3) % 0x10000) as u16,
-        available: number(3),
-    }
+fn short_le(head: Head) -> u16 {
+    (head.le % 0x10000) as u16
 }
 
 // The tags of a path, so many.
@@ -97,8 +78,8 @@ fn look(operation: u8, count: usize, record: &[u8], to: &mut [u8], out: &mut [u6
     gorvisclen_value(reading, record, path(&tags, count), to, out)
 }
 
-// Calls an operation with two strings and the next numbers of the file, so many; replies what it replies, or 255 where there is no such
-// operation.
+// Calls an operation with two strings and the next numbers of the file, so many; replies what it replies, or 255 where
+// there is no such operation.
 pub(crate) fn call(
     operation: u8,
     count: usize,
@@ -126,36 +107,36 @@ pub(crate) fn call(
         17 => gorvisclen_command_owned(low(), first, to, out),
         18 => gorvisclen_command_extend(number(3), to, first, out),
         19 => {
-            let b = builder();
-            gorvisclen_required_len(b.class, b.instruction, b.p1, b.p2, b.le, b.mode, first, out)
+            let h = start();
+            gorvisclen_required_len(h.class, h.instruction, h.p1, h.p2, h.le, low(), first, out)
         }
         20 => {
-            let b = builder();
-            gorvisclen_force_extended(b.class, b.instruction, b.p1, b.p2, b.le, b.mode, first, out)
+            let h = start();
+            gorvisclen_force_extended(h.class, h.instruction, h.p1, h.p2, h.le, low(), first, out)
         }
         21 => {
-            let b = builder();
+            let h = start();
             gorvisclen_builder_eq(
-                b.class,
-                b.instruction,
-                b.p1,
-                b.p2,
-                b.le,
-                b.mode,
+                h.class,
+                h.instruction,
+                h.p1,
+                h.p2,
+                h.le,
+                low(),
                 first,
                 second,
                 out,
             )
         }
         22 => {
-            let b = builder();
+            let h = start();
             gorvisclen_serialize_into(
-                b.class,
-                b.instruction,
-                b.p1,
-                b.p2,
-                b.le,
-                b.mode,
+                h.class,
+                h.instruction,
+                h.p1,
+                h.p2,
+                h.le,
+                low(),
                 first,
                 to,
                 number(3),
@@ -163,40 +144,40 @@ pub(crate) fn call(
             )
         }
         23 => {
-            let b = builder();
+            let h = start();
             gorvisclen_should_split(
-                b.class,
-                b.instruction,
-                b.p1,
-                b.p2,
-                b.le,
-                b.mode,
+                h.class,
+                h.instruction,
+                h.p1,
+                h.p2,
+                h.le,
+                low(),
                 first,
                 number(3),
                 out,
             )
         }
         24 => {
-            let c = chain();
+            let h = start();
             gorvisclen_new_non_extended(
-                c.class,
-                c.instruction,
-                c.p1,
-                c.p2,
+                h.class,
+                h.instruction,
+                h.p1,
+                h.p2,
                 first,
-                c.le,
-                c.available,
+                short_le(h),
+                number(3),
             )
         }
         25 => {
-            let c = chain();
+            let h = start();
             gorvisclen_write_next(
-                c.class,
-                c.instruction,
-                c.p1,
-                c.p2,
-                c.le,
-                c.available,
+                h.class,
+                h.instruction,
+                h.p1,
+                h.p2,
+                short_le(h),
+                number(3),
                 number(3),
                 low(),
                 first,

@@ -40,7 +40,8 @@ pub(crate) fn number(bytes: usize) -> usize
     n
 }
 
-// The next bytes, so many, read to a place, where there is room for them; says which place is behind those that there are.
+// The next so many bytes, read to a place, where there is room for them; says which place is behind those that there
+// are.
 pub(crate) fn read(to: &mut [u8], at: usize, n: usize) -> usize {
     let room = to.len();
     if at <= room {
@@ -69,37 +70,50 @@ fn filled(to: &mut [u8], from: usize, n: usize, first: u8, step: u8) -> usize {
     at
 }
 
-// A string: its length, and how many bytes it takes in the file.
-pub(crate) struct Laid {
-    pub(crate) len: usize,
+// How a string stands in the file: how many bytes before its filling, how many there are of the filling, the first of
+// these and the step from each to the next, how many bytes behind it, and how many bytes of the file all that takes.
+pub(crate) struct Form {
+    front: usize,
+    filling: usize,
+    first: u8,
+    step: u8,
+    back: usize,
     pub(crate) taken: usize,
 }
 
-// A string with a filling.
-fn with_filling(to: &mut [u8]) -> Laid {
-    let n = number(3);
+// That of the next string.
+pub(crate) fn form_of_next() -> Form {
+    let n = byte() as usize;
+    if n < 255 {
+        return Form {
+            front: n,
+            filling: 0,
+            first: 0,
+            step: 0,
+            back: 0,
+            taken: 1 + n,
+        };
+    }
+    let filling = number(3);
     let first = byte();
     let step = byte();
     let front = byte() as usize;
     let back = byte() as usize;
-    let at = read(to, 0, front);
-    let at = filled(to, at, n, first, step);
-    Laid {
-        len: read(to, at, back),
+    Form {
+        front,
+        filling,
+        first,
+        step,
+        back,
         taken: 8 + front + back,
     }
 }
 
-// The next string, laid out.
-pub(crate) fn string(to: &mut [u8]) -> Laid {
-    let n = byte() as usize;
-    if n == 255 {
-        return with_filling(to);
-    }
-    Laid {
-        len: read(to, 0, n),
-        taken: 1 + n,
-    }
+// Lays the string out, and says how long it is.
+pub(crate) fn string(form: Form, to: &mut [u8]) -> usize {
+    let at = read(to, 0, form.front);
+    let at = filled(to, at, form.filling, form.first, form.step);
+    read(to, at, form.back)
 }
 
 // The next so many numbers of three bytes, at most 16.

@@ -52,16 +52,18 @@ fn replayed(operation: u8, answer: usize) -> u8 {
     let mut second = input::space();
     let mut lent = input::space();
     let len = number(2);
-    let one = input::string(&mut first);
-    let two = input::string(&mut second);
+    let one = input::form_of_next();
+    let first_len = input::string(one, &mut first);
+    let two = input::form_of_next();
+    let second_len = input::string(two, &mut second);
     let count = less(less(len, one.taken), two.taken) / 3;
     let at = less(65600, number(3));
     answered(
         operation,
         answer,
         less(count, 1),
-        part(&first, 0, one.len),
-        part(&second, 0, two.len),
+        part(&first, 0, first_len),
+        part(&second, 0, second_len),
         &mut lent[at..],
     )
 }
@@ -103,8 +105,7 @@ fn with_section(before: Tally) -> Tally {
     let mut name = [0u8; 255];
     let end = input::read(&mut name, 0, number(1));
     let found = answers(operation, number(2));
-    io::write_all(1, part(&name, 0, end));
-    report::tally(found.answers, found.differing);
+    report::tally(part(&name, 0, end), found.answers, found.differing);
     Tally {
         answers: before.answers % 0x1000000 + found.answers % 0x1000000,
         differing: before.differing % 0x1000000 + found.differing % 0x1000000,
@@ -112,7 +113,7 @@ fn with_section(before: Tally) -> Tally {
     }
 }
 
-// Replays the file, and says whether it is whole: whether the last answer is, and nothing follows.
+// Replays the file.
 pub(crate) fn replay() {
     let mut all = Tally {
         answers: 0,
@@ -125,14 +126,6 @@ pub(crate) fn replay() {
         all = with_section(all);
         turn += 1;
     }
-    io::write_all(1, b"total");
-    report::tally(all.answers, all.differing);
-    let mut more = [0u8; 1];
-    if io::read_full(0, &mut more) == 0 {
-        if all.whole {
-            io::write_all(1, b"the file is whole\n");
-            return;
-        }
-    }
-    io::write_all(1, b"WRONG: the file is not whole\n");
+    report::tally(b"total", all.answers, all.differing);
+    report::end(all.whole);
 }

@@ -5,10 +5,10 @@ use Rattle.replay.proofs.walk.replay.Statement.{statement}
 use Rattle.replay.proofs.walk.replay.Tie as tie
 
 abbrev Inv-loop : tie.InvT-loop
-Inv-loop all₀ sections turn₀ t5 t6 t7 all turn = Unit {0}
+Inv-loop all₀ sections turn₀ t4 all turn = Unit {0}
 
 abbrev μ-loop : tie.MeasureT-loop
-μ-loop all₀ sections turn₀ t5 t6 t7 all turn = sections - turn
+μ-loop all₀ sections turn₀ t4 all turn = sections - turn
 
 pub replay-spec : {M : Type 1} → statement M
 replay-spec =
@@ -24,12 +24,5 @@ replay-spec =
     (λ c. search needs)
     (λ c. search needs)
     (λ c κs. search needs)
-    (λ c κs. search needs)
-    (λ c. search needs)
-    (λ c κs. search needs)
-    (λ c. search needs)
-    (λ c κs. search needs)
-    (λ c. search needs)
-    (λ c. search needs)
     (λ c κs. search needs)
     (λ c. search needs))
