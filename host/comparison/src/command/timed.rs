@@ -6,11 +6,11 @@
 use std::hint::black_box;
 use std::time::Instant;
 
-use gorvisclen::{Refused, CRATE_READING, OWNED_NUMBERS};
+use gorvisclen::{Reply, CRATE_READING, OWNED_NUMBERS};
 use original::command::{Command, CommandView, FromSliceError};
 
-use super::operations::{data, own, parse};
-use super::parsed::{of_owned, refusal, written};
+use super::operations::{data, own, parse, Asked};
+use super::parsed::{of_owned, written};
 use crate::call::Call;
 use crate::lent::Hex;
 use crate::timing::{best_of, check, ours, told, Lines, Size, HEADER, NO_LIMIT};
@@ -62,6 +62,16 @@ fn apdu(n: usize) -> Vec<u8> {
 }
 
 #[inline(never)]
+fn copy_data(asked: &Asked, to: &mut [u8], out: &mut [u64]) -> u8 {
+    let Ok(view) = CommandView::try_from(asked.1 .0) else {
+        return 5;
+    };
+    to[..view.data().len()].copy_from_slice(view.data());
+    out[0] = view.data().len() as u64;
+    0
+}
+
+#[inline(never)]
 fn copy<const N: usize>(apdu: &[u8]) -> Result<Command<N>, FromSliceError> {
     Command::try_from(apdu)
 }
@@ -77,63 +87,68 @@ fn copies<const N: usize>(lines: &mut Lines, words: &str) {
     check(&name, (0, of_owned(&command), &command.data()[..]), (told(reply), out, &room));
     let size = Size { to: N, out: OWNED_NUMBERS, bytes: 0 };
     lines.giving((&name, NO_LIMIT), size, &[own(asked)], |_| copy::<N>(black_box(&apdu)), ours);
-    lines.calls(&format!("data handed back, {words}"), NO_LIMIT, &[data(asked)], size);
+    let name = format!("data handed back, {words}");
+    lines.sides((&name, NO_LIMIT), size, (&[asked], &[data(asked)]), copy_data, ours);
 }
 
 #[inline(never)]
-fn by_rust<const N: usize>(pieces: &[Vec<u8>], held: &mut Command<N>) -> u8 {
-    for piece in pieces {
-        match CommandView::try_from(&piece[..]) {
-            Ok(view) if held.extend_from_command_view(view).is_ok() => (),
-            Ok(_) => return 18,
-            Err(error) => return refusal(error),
+fn by_rust<const N: usize>(pieces: &[&[u8]], held: &mut Command<N>) -> u8 {
+    for &piece in pieces {
+        let Ok(view) = CommandView::try_from(piece) else {
+            return 5;
+        };
+        if held.extend_from_command_view(view).is_err() {
+            return 18;
         }
     }
     0
 }
 
-/// The nanoseconds of one of so many calls that are made on something new.
-fn nanoseconds<S, T>(calls: usize, new: impl Fn() -> S, make: impl Fn(&mut S) -> T) -> f64 {
-    let one = || {
+/// The nanoseconds of what is done on something new, the best of some times.
+fn nanoseconds<S>(new: impl Fn() -> S, done: impl Fn(&mut S) -> u8) -> f64 {
+    best_of(TIMES, || {
         let mut on = new();
         let start = Instant::now();
-        black_box(make(black_box(&mut on)));
+        check("pieces", 0, black_box(done(black_box(&mut on))));
         start.elapsed().as_nanos() as f64
-    };
-    best_of(TIMES, one) / calls as f64
+    })
 }
 
 /// Times the adding of pieces, as so many calls, in a room of `N` bytes, which they fill. The Rust parses each and extends a command
-/// by it that has no data at first. Ours gives the numbers of the command that comes of it.
-pub fn adding<const N: usize>(
+/// by it that has no data at first. Ours tells the numbers of the command that comes of it, behind `front`.
+pub fn adding<const N: usize, const TOLD: usize>(
     lines: &mut Lines,
     (name, most): (&str, f64),
-    (pieces, calls): (&[Vec<u8>], usize),
-    ours: fn(&[Vec<u8>], &mut [u8]) -> Result<[u64; OWNED_NUMBERS], Refused>,
+    (pieces, calls): (&[&[u8]], usize),
+    front: &[u64],
+    ours: fn(&[&[u8]], &mut [u8], &mut [u64; TOLD]) -> Reply,
 ) {
     let none_held = || Box::new(Command::<N>::try_from(&HEADER).unwrap());
-    let (mut held, mut room) = (none_held(), vec![1; N]);
-    check(name, 0, by_rust(pieces, &mut held));
-    check(name, Ok(of_owned(&held)), ours(pieces, &mut room));
+    let lent = || (vec![1; N], [0; TOLD]);
+    let (mut held, (mut room, mut out)) = (none_held(), lent());
+    let replies = (by_rust(pieces, &mut held), told(ours(pieces, &mut room, &mut out)));
+    check(name, (0, 0), replies);
+    check(name, &[front, &of_owned(&held)].concat()[..], &out[..front.len() + OWNED_NUMBERS]);
     check(name, &held.data()[..], &room[..]);
-    lines.time(
-        name,
-        most,
-        || nanoseconds(calls, none_held, |held| by_rust(black_box(pieces), held)),
-        || nanoseconds(calls, || vec![1; N], |room| ours(black_box(pieces), room)),
-    );
+    let rust = || nanoseconds(none_held, |held| by_rust(black_box(pieces), held));
+    let ours = || nanoseconds(lent, |(room, out)| told(ours(black_box(pieces), room, out)));
+    lines.time(name, most, || rust() / calls as f64, || ours() / calls as f64);
+}
+
+#[inline(never)]
+fn extended(pieces: &[&[u8]], room: &mut [u8], out: &mut [u64; OWNED_NUMBERS]) -> Reply {
+    let mut len = 0;
+    for piece in pieces {
+        gorvisclen::command_extend(len, room, piece, out)?;
+        len = out[4] as usize;
+    }
+    Ok(())
 }
 
 /// Times the extending by pieces of `N / PIECES` data bytes.
 fn extending<const N: usize>(lines: &mut Lines, words: &str) {
-    let pieces = vec![apdu(N / PIECES); PIECES];
-    adding::<N>(lines, (&format!("extend by {words}"), NO_LIMIT), (&pieces, PIECES), |pieces, room| {
-        let mut out = [0; OWNED_NUMBERS];
-        for piece in pieces {
-            gorvisclen::command_extend(out[4] as usize, room, piece, &mut out)?;
-        }
-        Ok(out)
-    });
+    let (name, piece) = (format!("extend by {words}"), apdu(N / PIECES));
+    adding::<N, OWNED_NUMBERS>(lines, (&name, NO_LIMIT), (&[&piece[..]; PIECES], PIECES), &[], extended);
 }
 
 pub fn time(lines: &mut Lines) {

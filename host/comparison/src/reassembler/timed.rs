@@ -1,7 +1,7 @@
 //! Joining timed: a call joins all pieces of a command of 65,535 bytes in a room. The Rust parses each piece and extends an owned
 //! command by it, which has no data at first; ours is called once for each piece, with the record that it told of the one before.
 
-use gorvisclen::{Reassembler, Refused, BUFFER_LEN, JOIN_NUMBERS, OWNED_NUMBERS};
+use gorvisclen::{Reassembler, Reply, BUFFER_LEN, JOIN_NUMBERS};
 
 use super::{lists, model};
 use crate::command::adding;
@@ -31,15 +31,14 @@ fn cut(available: usize) -> Vec<Vec<u8>> {
     lists::Command::new(HEADER, data, 0, available).pieces()
 }
 
-fn joined(pieces: &[Vec<u8>], room: &mut [u8]) -> Result<[u64; OWNED_NUMBERS], Refused> {
-    let (mut record, mut out) = (Reassembler::CLOSED, [0; JOIN_NUMBERS]);
+#[inline(never)]
+fn joined(pieces: &[&[u8]], room: &mut [u8], out: &mut [u64; JOIN_NUMBERS]) -> Reply {
+    let mut record = Reassembler::CLOSED;
     for piece in pieces {
-        record.join(piece, room, &mut out)?;
-        record = model::rest(out);
+        record.join(piece, room, out)?;
+        record = model::rest(*out);
     }
-    let [one, command @ .., _, _, _, _, _, _] = out;
-    assert_eq!(one, 1, "a command");
-    Ok(command)
+    Ok(())
 }
 
 pub fn time(lines: &mut Lines) {
@@ -48,6 +47,7 @@ pub fn time(lines: &mut Lines) {
         ("join 65,535 bytes, cut for 261", cut(BUFFER_LEN)),
         ("join 65,535 bytes, cut for 100", cut(100)),
     ] {
-        adding::<LEN>(lines, (name, MOST), (&pieces, 1), joined);
+        let pieces: Vec<&[u8]> = pieces.iter().map(|piece| &piece[..]).collect();
+        adding::<LEN, JOIN_NUMBERS>(lines, (name, MOST), (&pieces, 1), &[1], joined);
     }
 }
