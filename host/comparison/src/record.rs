@@ -21,7 +21,7 @@ const MOST_REFUSED: usize = 128;
 const LONGEST: usize = 100;
 
 /// So many bytes at most are lent, and so long is a string at most: the program replay has no more room.
-const ROOM: usize = 70_000;
+const ROOM: usize = 65_600;
 
 /// The refusals that the Rust's answers come to: document 01, "Numbers of refusal".
 const REFUSALS: [u8; 17] = [1, 2, 3, 4, 5, 6, 7, 8, 9, 10, 11, 12, 13, 14, 15, 18, 19];
