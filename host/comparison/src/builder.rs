@@ -13,7 +13,8 @@ use std::hint::black_box;
 use gorvisclen::{EXPECTED_MAX, EXTENDED_FORCED, EXTENDED_SUPPORTED};
 
 pub use self::asked::{bytes_of, expected, Asked, Builder};
-use self::fields::{some_expected, some_header, some_mode, EXPECTED, HEADERS, LONG, MODES, REFUSED, SHORT, TOO_LONG};
+pub use self::fields::{some_expected, some_mode};
+use self::fields::{some_header, EXPECTED, HEADERS, LENGTHS, MODES, REFUSED, TOO_LONG};
 use self::operations::{equals, force, length, read_back, write};
 pub use self::timed::time;
 use crate::call::Call;
@@ -34,7 +35,7 @@ fn every_number(tally: &mut Tally, inputs: &mut Inputs, asked: Asked) {
 
 /// Buffers that it fits exactly from a place, that are a byte short and a byte longer; and places around the end.
 fn around_the_end(tally: &mut Tally, inputs: &mut Inputs, asked: Asked, before: usize) {
-    let need = asked.len_in(asked.mode);
+    let need = asked.required_len();
     let exact = before + need;
     for buffer_len in [exact, exact - 1, exact + 1] {
         write(asked, before).compare(tally, buffer_len, 1 + inputs.below(2));
@@ -46,62 +47,50 @@ fn around_the_end(tally: &mut Tally, inputs: &mut Inputs, asked: Asked, before: 
     }
 }
 
-/// Commands that are equal to one to build: its own bytes, in which Le is lowered and Max is 65,536; then its fields in both forms.
-fn equal(asked: Asked, ne: u32) -> Vec<Vec<u8>> {
-    let Asked { header, le, data, .. } = asked;
-    let mut apdus = vec![model::command(header, le, asked.mode, data)];
-    for mode in [EXTENDED_SUPPORTED, EXTENDED_FORCED] {
-        apdus.push(model::command(header, ne, mode, data));
-    }
-    apdus
-}
-
 /// Commands with another header or another expected length.
-fn other_numbers(inputs: &mut Inputs, asked: Asked, (ne, form): (u32, u8)) -> Vec<Vec<u8>> {
-    let Asked { header, data, .. } = asked;
+fn other_numbers(inputs: &mut Inputs, asked: Asked) -> Vec<Vec<u8>> {
     let mut apdus = vec![];
     for i in 0..4 {
-        let mut other = header;
-        other[i] ^= 1 + inputs.below(255) as u8;
-        apdus.push(model::command(other, ne, form, data));
+        let mut other = asked;
+        other.header[i] ^= 1 + inputs.below(255) as u8;
+        apdus.push(other.bytes());
     }
-    let lengths = [ne.saturating_sub(1), ne + 1, 0, 256, 65_535, EXPECTED_MAX];
-    apdus.extend(lengths.map(|other| model::command(header, other, form, data)));
+    let lengths = [asked.le.saturating_sub(1), asked.le + 1, 0, 256, 65_535, EXPECTED_MAX];
+    apdus.extend(lengths.map(|le| Asked { le, ..asked }.bytes()));
     apdus
 }
 
 /// Commands with other data.
-fn other_data(inputs: &mut Inputs, asked: Asked, (ne, form): (u32, u8)) -> Vec<Vec<u8>> {
-    let Asked { header, data, .. } = asked;
-    let n = data.len();
+fn other_data(inputs: &mut Inputs, asked: Asked) -> Vec<Vec<u8>> {
+    let Asked { header, le, data, .. } = asked;
+    let with = |data: &[u8]| Asked { data, ..asked }.bytes();
     let mut apdus = vec![];
-    if n > 0 {
+    if let n @ 1.. = data.len() {
         for at in [0, inputs.below(n), n - 1] {
             let mut other = data.to_vec();
             other[at] ^= 1 << inputs.below(8);
-            apdus.push(model::command(header, ne, form, &other));
+            apdus.push(with(&other));
         }
-        apdus.push(model::command(header, ne, form, &data[1..]));
-        apdus.push(model::command(header, ne, form, &data[..n - 1]));
+        apdus.extend([&data[1..], &data[..n - 1]].map(with));
     } else {
         // An extended Lc of zero, which the crate's reading takes.
-        let [.., high, low] = ne.to_be_bytes();
+        let [.., high, low] = le.to_be_bytes();
         apdus.push([&header[..], &[0, 0, 0, high, low]].concat());
     }
-    if n < 65_535 {
-        let longer = [data, &[inputs.number() as u8]].concat();
-        apdus.push(model::command(header, ne, form, &longer));
+    if data.len() < 65_535 {
+        apdus.push(with(&[data, &[inputs.byte()]].concat()));
     }
     apdus
 }
 
-/// Held against commands that are equal, that differ in one field, and that are refused.
+/// Held against commands that are equal, that differ in one field, and that are refused. Equal are its own bytes, in which Le is
+/// lowered and Max is 65,536, and its fields in both forms.
 fn every_comparison(tally: &mut Tally, inputs: &mut Inputs, asked: Asked) {
-    let ne = model::compared(asked.le);
-    let mut apdus = equal(asked, ne);
-    let form = 1 + inputs.below(2) as u8;
-    apdus.extend(other_numbers(inputs, asked, (ne, form)));
-    apdus.extend(other_data(inputs, asked, (ne, form)));
+    let in_form = |mode| Asked { le: asked.compared(), mode, ..asked };
+    let mut apdus = vec![asked.bytes(), in_form(EXTENDED_SUPPORTED).bytes(), in_form(EXTENDED_FORCED).bytes()];
+    let other = in_form(1 + inputs.below(2) as u8);
+    apdus.extend(other_numbers(inputs, other));
+    apdus.extend(other_data(inputs, other));
     apdus.push(inputs.damaged(&apdus[1]));
     apdus.push(inputs.one_of(&REFUSED).to_vec());
     for apdu in &apdus {
@@ -123,7 +112,7 @@ fn every_operation(tally: &mut Tally, inputs: &mut Inputs, asked: Asked) {
 /// Lengths of data and expected lengths around each boundary, in every mode.
 pub fn every_boundary(tally: &mut Tally, inputs: &mut Inputs) {
     let row = inputs.bytes(65_535);
-    for (n, le, mode) in triples(SHORT.into_iter().chain(LONG), EXPECTED, MODES) {
+    for (n, le, mode) in triples(LENGTHS, EXPECTED, MODES) {
         for _ in 0..if n < 1_000 { 4 } else { 1 } {
             let header = some_header(inputs);
             let start = inputs.below(65_536 - n);
@@ -192,7 +181,7 @@ fn every_header(tally: &mut Tally, inputs: &mut Inputs) {
         header[i] = byte;
         let n = inputs.below(4);
         let data = &inputs.bytes(n);
-        let le = some_expected(inputs);
+        let le = some_expected(inputs, &EXPECTED);
         let asked = Asked::new(header, le, mode, data);
         every_operation(tally, inputs, asked);
     }
@@ -204,7 +193,7 @@ fn every_two_bytes(tally: &mut Tally) {
         let [mut header, mut other] = [HEADERS[0]; 2];
         [header[i], other[i]] = both.to_be_bytes();
         let asked = Asked::new(header, 5, EXTENDED_SUPPORTED, &[0x24]);
-        let apdu = model::command(other, 5, EXTENDED_SUPPORTED, &[0x24]);
+        let apdu = Asked { header: other, ..asked }.bytes();
         equals(asked, &apdu).compare_numbers(tally, 1);
     }
 }
@@ -227,17 +216,13 @@ fn every_place(tally: &mut Tally, inputs: &mut Inputs) {
 /// every 1,021st between them.
 fn every_place_at_a_boundary(tally: &mut Tally, inputs: &mut Inputs) {
     let row = inputs.bytes(65_535);
-    for (n, (mode, le)) in
-        pairs([0, 1, 254, 255, 256, 257, 65_535], [(0, 5), (1, 0), (1, 256), (1, 257), (2, EXPECTED_MAX)])
-    {
+    let fields = [(0, 5), (1, 0), (1, 256), (1, 257), (2, EXPECTED_MAX)];
+    for (n, (mode, le)) in pairs([0, 1, 254, 255, 256, 257, 65_535], fields) {
         let asked = Asked::new(HEADERS[1], le, mode, &row[..n]);
-        let need = asked.len_in(mode);
+        let need = asked.required_len();
         for buffer_len in [need - 1, need, need + 3] {
-            for at in 0..=buffer_len + 3 {
-                let inner = at > 16 && at + 16 < buffer_len;
-                if n > 257 && inner && at % 1_021 != 0 {
-                    continue;
-                }
+            let taken = |at: &usize| n <= 257 || *at <= 16 || at + 16 >= buffer_len || at % 1_021 == 0;
+            for at in (0..=buffer_len + 3).filter(taken) {
                 write(asked, at).compare(tally, buffer_len, 1);
             }
         }
@@ -256,7 +241,7 @@ fn too_long(tally: &mut Tally, inputs: &mut Inputs, header: [u8; 4], mode: u8, d
     for (buffer_len, at) in [(n + 20, 3), (0, 0), (0, 1), (n, 0), (8, usize::MAX)] {
         write(asked, at).compare(tally, buffer_len, inputs.below(3));
     }
-    let own = model::command(header, 0, mode, &data[..n % 65_536]);
+    let own = Asked::new(header, 0, mode, &data[..n % 65_536]).bytes();
     for apdu in REFUSED.into_iter().chain([&own[..]]) {
         equals(asked, apdu).compare_numbers(tally, inputs.below(3));
     }
@@ -287,13 +272,10 @@ pub fn random(tally: &mut Tally, inputs: &mut Inputs) {
         let (n, mode) = (65_536 + inputs.below(row.len() - 65_535), some_mode(inputs));
         too_long(tally, inputs, header, mode, &row[..n]);
     }
-    let most = match inputs.below(1_000) {
-        0 => 65_536,
-        _ => [2, 20, 300, 700][inputs.below(4)],
-    };
+    let most = if inputs.below(1_000) == 0 { 65_536 } else { inputs.one_of(&[2, 20, 300, 700]) };
     let n = inputs.below(most);
     let data = &inputs.bytes(n);
-    let (header, le) = (some_header(inputs), some_expected(inputs));
+    let (header, le) = (some_header(inputs), some_expected(inputs, &EXPECTED));
     let asked = Asked::new(header, le, some_mode(inputs), data);
     every_operation(tally, inputs, asked);
     // Buffers that end in the header, or in Lc.

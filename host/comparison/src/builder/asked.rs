@@ -6,9 +6,8 @@ use std::fmt;
 
 use gorvisclen::{EXTENDED_SUPPORTED, SHORT_ONLY};
 use opened::command::class::Class;
-use opened::command::{short_only, CommandBuilder, ExpectedLen};
+use opened::command::{short_only, ChainedCommandIterator, CommandBuilder, ExpectedLen};
 
-use super::model;
 use crate::call::Given;
 use crate::lent::Hex;
 use crate::panics::unless_it_panics;
@@ -27,9 +26,8 @@ pub type Builder<'a> = CommandBuilder<&'a [u8]>;
 
 impl fmt::Debug for Asked<'_> {
     fn fmt(&self, f: &mut fmt::Formatter<'_>) -> fmt::Result {
-        let (header, data) = (Hex(&self.header), Hex(self.data));
-        write!(f, "header {header:?}, le {}, ", self.le)?;
-        write!(f, "mode {}, data {data:?}", self.mode)
+        let &Asked { header, le, mode, data } = self;
+        write!(f, "header {:?}, le {le}, mode {mode}, data {:?}", Hex(&header), Hex(data))
     }
 }
 
@@ -55,55 +53,47 @@ impl<'a> Asked<'a> {
         self.mode == SHORT_ONLY && n <= 65_535 && (n > 255 || self.le > 65_535)
     }
 
-    /// The length that the command takes in a mode, by the model.
-    pub fn len_in(&self, mode: u8) -> usize {
-        model::required_len(self.data.len(), self.le, mode)
-    }
-
     /// The Rust's builder; 3 where the Rust has no such class, 13 where it panics.
     #[inline(always)]
     pub fn made(&self) -> Result<Builder<'a>, u8> {
-        match self.mode {
-            SHORT_ONLY => self.made_apart(),
-            _ if self.data.len() > 65_535 => self.made_apart(),
-            _ => self.unchecked(),
+        if self.mode == SHORT_ONLY && !self.is_inside() {
+            return self.first_piece();
         }
-    }
-
-    /// The same where that takes long, or where it panics.
-    #[inline(never)]
-    fn made_apart(&self) -> Result<Builder<'a>, u8> {
-        if self.data.len() <= 65_535 {
-            return self.unchecked();
-        }
-        match unless_it_panics(|| self.unchecked().map(|_| ())) {
-            None => Err(13),
-            Some(Err(number)) => Err(number),
-            Some(Ok(())) => panic!("no panic of the Rust's: {self:?}"),
-        }
-    }
-
-    #[inline(always)]
-    fn unchecked(&self) -> Result<Builder<'a>, u8> {
-        let [class, instruction, p1, p2] = self.header;
+        let Asked { header: [class, instruction, p1, p2], mode, data, .. } = *self;
         let class = Class::try_from(class).map_err(|_| 3)?;
-        let (instruction, data) = (instruction.into(), self.data);
         let le = u16::try_from(self.le).map_or(ExpectedLen::Max, ExpectedLen::Ne);
-        let new = || CommandBuilder::new(class, instruction, p1, p2, data, le);
-        Ok(match self.mode {
-            EXTENDED_SUPPORTED => new(),
-            SHORT_ONLY if self.is_inside() => short_only(class, instruction, [p1, p2], data, le),
-            SHORT_ONLY => {
-                // A chain takes no Max. It is asked for one here only where it panics.
-                let (le, long) = (self.le.min(65_535) as u16, Some(usize::MAX / 2));
-                let mut chain = CommandBuilder::new_non_extended(class, instruction, p1, p2, data, le, long);
-                let whole = chain.next().unwrap();
-                assert!(chain.next().is_none());
-                whole
-            }
-            _ => new().force_extended(),
+        unless_too_long(data, || match mode {
+            SHORT_ONLY => short_only(class, instruction.into(), [p1, p2], data, le),
+            EXTENDED_SUPPORTED => CommandBuilder::new(class, instruction.into(), p1, p2, data, le),
+            _ => CommandBuilder::new(class, instruction.into(), p1, p2, data, le).force_extended(),
         })
     }
+
+    /// The only piece of a chain. That takes no Max: it is asked for one here only where it panics.
+    #[inline(never)]
+    fn first_piece(&self) -> Result<Builder<'a>, u8> {
+        let mut chain = chain_of(self.header, self.data, self.le.min(65_535) as u16, Some(usize::MAX / 2))?;
+        let whole = chain.next().unwrap();
+        assert!(chain.next().is_none());
+        Ok(whole)
+    }
+}
+
+/// What is made of these data; 13 where they are too long, so that it panics.
+#[inline(always)]
+fn unless_too_long<T>(data: &[u8], make: impl FnOnce() -> T) -> Result<T, u8> {
+    match data.len() {
+        0..=65_535 => Ok(make()),
+        n => unless_it_panics(make).map_or(Err(13), |_| panic!("no panic of the Rust's for {n} bytes")),
+    }
+}
+
+/// A chain of the Rust, as a host makes it, for a buffer of a length; 3 where the Rust has no such class, 13 where it panics.
+#[inline(always)]
+pub fn chain_of(header: [u8; 4], data: &[u8], le: u16, len: Option<usize>) -> Result<ChainedCommandIterator<'_>, u8> {
+    let [class, instruction, p1, p2] = header;
+    let class = Class::try_from(class).map_err(|_| 3)?;
+    unless_too_long(data, || CommandBuilder::new_non_extended(class, instruction.into(), p1, p2, data, le, len))
 }
 
 /// The bytes of a command of the Rust.

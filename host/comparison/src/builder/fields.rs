@@ -8,31 +8,12 @@ pub const MODES: [u8; 3] = [SHORT_ONLY, EXTENDED_SUPPORTED, EXTENDED_FORCED];
 
 /// Expected lengths around each boundary; Max by several numbers, of which some would be small if they were cut.
 pub const EXPECTED: [u32; 20] = [
-    0,
-    1,
-    2,
-    254,
-    255,
-    256,
-    257,
-    258,
-    511,
-    512,
-    65_280,
-    65_534,
-    65_535,
-    65_536,
-    65_537,
-    65_791,
-    65_792,
-    131_071,
-    1 << 24,
-    u32::MAX,
+    0, 1, 2, 254, 255, 256, 257, 258, 511, 512, 65_280, 65_534, 65_535, 65_536, 65_537, 65_791, 65_792, 131_071,
+    0x100_0000, 0xFFFFFFFF,
 ];
 
 /// Lengths of data around each boundary.
-pub const SHORT: [usize; 10] = [0, 1, 2, 5, 254, 255, 256, 257, 511, 512];
-pub const LONG: [usize; 3] = [65_280, 65_534, 65_535];
+pub const LENGTHS: [usize; 13] = [0, 1, 2, 5, 254, 255, 256, 257, 511, 512, 65_280, 65_534, 65_535];
 
 /// Lengths that are too long; cut to two bytes, each would be one that is not.
 pub const TOO_LONG: [usize; 6] = [65_536, 65_537, 65_541, 65_791, 65_792, 131_072];
@@ -75,10 +56,11 @@ pub fn some_mode(inputs: &mut Inputs) -> u8 {
     }
 }
 
-pub fn some_expected(inputs: &mut Inputs) -> u32 {
+/// Any expected length, more often a small one or one of a list.
+pub fn some_expected(inputs: &mut Inputs, list: &[u32]) -> u32 {
     match inputs.below(4) {
         0 => inputs.below(70_000) as u32,
         1 => inputs.below(600) as u32,
-        _ => inputs.one_of(&EXPECTED),
+        _ => inputs.one_of(list),
     }
 }

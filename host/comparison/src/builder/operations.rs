@@ -1,13 +1,12 @@
 //! The operations on a builder.
 
-use gorvisclen::{Reply, COMMAND_NUMBERS, CRATE_READING, SHORT_ONLY, STANDARD_READING};
+use gorvisclen::{COMMAND_NUMBERS, CRATE_READING, EXTENDED_FORCED, SHORT_ONLY, STANDARD_READING};
 use opened::command::CommandView;
 
 use super::asked::Asked;
-use super::model;
 use crate::call::{call, Call, Left};
 use crate::command::by_rust;
-use crate::lent::{bytes, numbers, Hex, Outcome};
+use crate::lent::Hex;
 use crate::panics::unless_it_panics;
 use crate::record::Operation;
 use crate::tally::Tally;
@@ -53,7 +52,7 @@ pub fn length(asked: Asked<'_>) -> impl Call<1> + '_ {
     )
     .held_to(|asked, _| {
         let len = asked.made()?.required_len();
-        Ok([asked.same(len, asked.len_in(asked.mode)) as u64].into())
+        Ok([asked.same(len, asked.required_len()) as u64].into())
     })
     .recorded_as(Operation::RequiredLen)
 }
@@ -69,7 +68,7 @@ pub fn force(asked: Asked<'_>) -> impl Call<1> + '_ {
     .held_to(|asked, _| {
         let made = asked.made()?;
         let forced = unless_it_panics(|| made.force_extended().required_len());
-        let model = (asked.mode != SHORT_ONLY).then(|| asked.len_in(2));
+        let model = (asked.mode != SHORT_ONLY).then(|| Asked { mode: EXTENDED_FORCED, ..*asked }.required_len());
         Ok([asked.same(forced, model).ok_or(15)? as u64].into())
     })
     .recorded_as(Operation::ForceExtended)
@@ -81,7 +80,7 @@ fn model_equals(asked: &Asked, apdu: &[u8]) -> Result<bool, u8> {
     let [cla, ins, p1, p2, _, _, ne, _] = parsed.numbers;
     Ok(asked.header.map(u64::from) == [cla, ins, p1, p2]
         && asked.data == parsed.data
-        && u64::from(model::compared(asked.le)) == ne)
+        && u64::from(asked.compared()) == ne)
 }
 
 /// Whether a command to build equals one that is read.
@@ -125,8 +124,7 @@ pub fn write(asked: Asked<'_>, at: usize) -> impl Call<1> + '_ {
             let n = to_len - at - rest.len();
             assert_eq!(n, builder.required_len());
             written.truncate(n);
-            let Asked { header, le, mode, data } = asked;
-            asked.same(&written, &model::command(header, le, mode, data));
+            asked.same(&written, &asked.bytes());
             Ok(Left::written([n as u64], at, written))
         },
     )
@@ -139,33 +137,27 @@ pub fn write(asked: Asked<'_>, at: usize) -> impl Call<1> + '_ {
 
 /// Holds what is written from a place to be read again, in both readings.
 pub fn read_back(tally: &mut Tally, asked: Asked, at: usize) {
-    let Asked { header, le, mode, data } = asked;
-    let mut buffer = vec![0xEE; at + asked.len_in(mode) + 3];
-    let mut written = [0];
+    let n = asked.data.len();
+    let (mut buffer, mut written) = (vec![0xEE; at + asked.required_len() + 3], [0]);
     // A refusal leaves nothing to read, which is then seen.
-    let _ = gorvisclen::serialize_into(header, le, mode, data, &mut buffer, at, &mut written);
+    let _ = write(asked, at).ours(&mut buffer, &mut written);
     let apdu = buffer[at..].get(..written[0] as usize).unwrap_or(&[]);
-
-    let fields = model::fields(data.len(), le, mode);
-    let [lc_len, le_len] = [fields[0].len(), fields[1].len()];
-    let [cla, ins, p1, p2] = header.map(u64::from);
-    let extended = (lc_len > 1 || le_len > 1).into();
-    let (place, shown) = (4 + lc_len as u64, model::shown(le, mode).into());
-    let answer = [cla, ins, p1, p2, place, data.len() as u64, shown, extended];
-    let theirs = Left::written(answer, 0, data);
-
     for reading in [CRATE_READING, STANDARD_READING] {
-        let outcome = |call: &dyn Fn(&mut [u8], &mut [u64]) -> Reply| {
-            let (mut out, mut to) = (numbers(COMMAND_NUMBERS), bytes(data.len()));
-            let reply = call(to.part(), out.part());
-            Outcome::new(reply, out, to)
-        };
-        let ours = outcome(&|to, out| {
-            gorvisclen::command(reading, apdu, out)?;
-            gorvisclen::command_data(reading, apdu, to, &mut [0])
-        });
-        let theirs = outcome(&|to, out| theirs.write(to, out));
-        let input = || format!("{asked:?}, written {:?}, reading {reading}", Hex(apdu));
-        tally.compare((READ_BACK, &[]), input, &theirs, &ours);
+        call(
+            (READ_BACK, &[]),
+            (asked, (reading, Hex(apdu))),
+            |&(_, (reading, apdu)), to, out| {
+                gorvisclen::command(reading, &apdu, out)?;
+                gorvisclen::command_data(reading, &apdu, to, &mut [0])
+            },
+            |&(asked, _), _| {
+                let [lc_len, le_len] = asked.fields().map(|field| field.len());
+                let [cla, ins, p1, p2] = asked.header.map(u64::from);
+                let (place, extended) = (4 + lc_len as u64, (lc_len > 1 || le_len > 1).into());
+                let numbers = [cla, ins, p1, p2, place, asked.data.len() as u64, asked.shown().into(), extended];
+                Ok(Left::written(numbers, 0, asked.data))
+            },
+        )
+        .compare(tally, n, COMMAND_NUMBERS);
     }
 }
