@@ -12,7 +12,7 @@ use std::hint::black_box;
 
 use gorvisclen::{EXPECTED_MAX, EXTENDED_FORCED, EXTENDED_SUPPORTED};
 
-pub use self::asked::{bytes_of, expected, Asked, Builder};
+pub use self::asked::{bytes_of, expected, unless_too_long, Asked, Builder};
 pub use self::fields::{some_expected, some_mode};
 use self::fields::{some_header, EXPECTED, HEADERS, LENGTHS, MODES, REFUSED, TOO_LONG};
 use self::operations::{equals, force, length, read_back, write};
@@ -221,7 +221,7 @@ fn every_place_at_a_boundary(tally: &mut Tally, inputs: &mut Inputs) {
         let asked = Asked::new(HEADERS[1], le, mode, &row[..n]);
         let need = asked.required_len();
         for buffer_len in [need - 1, need, need + 3] {
-            let taken = |at: &usize| n <= 257 || *at <= 16 || at + 16 >= buffer_len || at % 1_021 == 0;
+            let taken = |at: &usize| n <= 257 || *at <= 16 || at + 16 >= buffer_len || at.is_multiple_of(1_021);
             for at in (0..=buffer_len + 3).filter(taken) {
                 write(asked, at).compare(tally, buffer_len, 1);
             }

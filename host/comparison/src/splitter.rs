@@ -3,7 +3,6 @@
 
 mod chains;
 mod edges;
-mod rust;
 mod steps;
 mod timed;
 
@@ -13,10 +12,10 @@ use gorvisclen::{EXPECTED_MAX, SPLIT_NUMBERS};
 
 use self::steps::{parts, step};
 pub use self::timed::time;
-use crate::builder::Asked;
+use crate::builder::{some_expected, some_mode, Asked};
 use crate::call::Call;
 use crate::inputs::Inputs;
-use crate::loops::triples;
+use crate::loops::{pairs, triples};
 use crate::tally::Tally;
 
 /// Headers; the last one of a class that is refused, and before it one whose pieces are of that class.
@@ -29,6 +28,9 @@ const HEADERS: [[u8; 4]; 7] = [
     [0xEF, 0xFF, 0x00, 0x00],
     [0xFF, 0xA4, 0x04, 0x00],
 ];
+
+/// Those of which commands are made.
+const MADE: &[[u8; 4]] = HEADERS.split_at(6).0;
 
 /// Expected lengths around each boundary; Max by two numbers.
 const EXPECTED: [u32; 10] = [0, 1, 255, 256, 257, 258, 65_534, 65_535, EXPECTED_MAX, u32::MAX];
@@ -52,21 +54,9 @@ fn some_header(inputs: &mut Inputs) -> [u8; 4] {
 
 /// Any number, more often a small one or one around a boundary.
 fn some_len(inputs: &mut Inputs) -> usize {
-    let most = match inputs.below(8) {
-        0 => return buffers().nth(inputs.below(buffers().count())).unwrap(),
-        1 => 65_546,
-        2 => 5_000,
-        3..=4 => 20,
-        _ => 700,
-    };
-    inputs.below(most)
-}
-
-fn some_expected(inputs: &mut Inputs) -> u32 {
-    match inputs.below(4) {
-        0 => inputs.below(70_000) as u32,
-        1 => inputs.below(600) as u32,
-        _ => inputs.one_of(&EXPECTED),
+    match inputs.one_of(&[0, 65_546, 5_000, 20, 20, 700, 700, 700]) {
+        0 => buffers().nth(inputs.below(buffers().count())).unwrap(),
+        most => inputs.below(most),
     }
 }
 
@@ -104,14 +94,11 @@ fn every_small_step(tally: &mut Tally, inputs: &mut Inputs) {
     let row = inputs.bytes(65_535);
     for mode in 0..3 {
         for le in [0, 1, 256, 257] {
-            let header = HEADERS[inputs.below(6)];
+            let header = inputs.one_of(MADE);
             for n in 0..=300 {
                 let asked = Asked::new(header, le, mode, &row[..n]);
-                for available in 10..=300 {
-                    step(asked, available).compare_unread(tally, SPLIT_NUMBERS);
-                }
-                for available in 0..10 {
-                    if !(10..=250).contains(&n) || inputs.below(10) == 0 {
+                for available in 0..=300 {
+                    if available >= 10 || !(10..=250).contains(&n) || inputs.below(10) == 0 {
                         step(asked, available).compare_unread(tally, SPLIT_NUMBERS);
                     }
                 }
@@ -130,14 +117,13 @@ fn every_small_step(tally: &mut Tally, inputs: &mut Inputs) {
 fn every_class_and_mode(tally: &mut Tally, inputs: &mut Inputs) {
     let row = inputs.bytes(300);
     for (byte, n, available) in triples(0..=u8::MAX, [0, 1, 5, 255, 256, 300], [9, 10, 12, 100, 261, 400]) {
-        let le = some_expected(inputs);
+        let le = some_expected(inputs, &EXPECTED);
         let header = [byte, byte ^ 0x55, byte.wrapping_add(1), 0];
         for mode in [0, 1, 2, byte] {
             let asked = Asked::new(header, le, mode, &row[..n]);
             step(asked, available).compare_numbers(tally, SPLIT_NUMBERS);
         }
-        let asked = chains::Asked::new(header, &row[..n], le as u16, available);
-        asked.cut(tally, (1, 1), 5);
+        chains::Asked::new(header, &row[..n], le as u16, available).cut(tally, (1, 1), 5);
     }
 }
 
@@ -145,11 +131,8 @@ fn every_class_and_mode(tally: &mut Tally, inputs: &mut Inputs) {
 pub fn random_step(tally: &mut Tally, inputs: &mut Inputs) {
     let row = inputs.row();
     let n = some_len(inputs).min(row.len());
-    let mode = match inputs.below(4) {
-        3 => inputs.byte(),
-        mode => mode as u8,
-    };
-    let (header, le) = (some_header(inputs), some_expected(inputs));
+    let mode = some_mode(inputs);
+    let (header, le) = (some_header(inputs), some_expected(inputs, &EXPECTED));
     let start = inputs.below(row.len() - n + 1);
     let asked = Asked::new(header, le, mode, &row[start..start + n]);
     let available = some_len(inputs);
@@ -164,28 +147,13 @@ pub fn random_step(tally: &mut Tally, inputs: &mut Inputs) {
 fn every_expected_length(tally: &mut Tally, inputs: &mut Inputs) {
     let row = inputs.bytes(65_535);
     let before = row.clone();
-    let cases = [
-        (0, 10),
-        (1, 10),
-        (4, 10),
-        (5, 10),
-        (300, 10),
-        (261, 11),
-        (255, 261),
-        (256, 261),
-        (257, 261),
-        (600, 261),
-        (600, 260),
-        (600, 300),
-        (2_000, 100),
-        (65_535, 261),
-    ];
+    let lengths = [0, 1, 4, 5, 300, 261, 255, 256, 257, 600, 600, 600, 2_000, 65_535];
+    let buffers = [10, 10, 10, 10, 10, 11, 261, 261, 261, 261, 260, 300, 100, 261];
     for le in 0..=257 {
-        for (n, available) in cases {
-            let header = HEADERS[inputs.below(HEADERS.len() - 1)];
+        for (n, available) in lengths.into_iter().zip(buffers) {
+            let header = inputs.one_of(MADE);
             let asked = chains::Asked::new(header, &row[65_535 - n..], le, available);
-            let around = (inputs.below(3), inputs.below(3));
-            asked.cut(tally, around, 1 + inputs.below(40));
+            asked.cut(tally, (inputs.below(3), inputs.below(3)), 1 + inputs.below(40));
         }
         let (n, available) = (inputs.below(65_536), 60 + inputs.below(700));
         let asked = chains::Asked::new(some_header(inputs), &row[..n], le, available);
@@ -198,26 +166,22 @@ fn every_expected_length(tally: &mut Tally, inputs: &mut Inputs) {
 fn most_pieces(tally: &mut Tally, inputs: &mut Inputs) {
     let row = inputs.bytes(65_535);
     for (le, available) in [(0, 10), (1, 10), (256, 10), (65_535, 10), (0, 11), (5, 12)] {
-        let asked = chains::Asked::new(HEADERS[1], &row, le, available);
-        asked.cut(tally, (0, 1), 1_000);
+        chains::Asked::new(HEADERS[1], &row, le, available).cut(tally, (0, 1), 1_000);
     }
 }
 
 /// Whole chains for every buffer from 10 to 270, and large ones.
 fn every_buffer(tally: &mut Tally, inputs: &mut Inputs) {
     let row = inputs.bytes(65_535);
-    for (available, n, le) in triples(
-        (10..=270).chain([511, 512, 65_535, 65_536, 70_000, 1 << 32, usize::MAX]),
-        [0, 1, 2, 9, 250, 254, 255, 256, 257, 510, 511, 512, 766],
-        [0, 1, 256, 257, 65_535],
-    ) {
-        let header = HEADERS[inputs.below(HEADERS.len() - 1)];
-        let asked = chains::Asked::new(header, &row[..n], le, available);
+    let buffers = (10..=270).chain([511, 512, 65_535, 65_536, 70_000, 1 << 32, usize::MAX]);
+    let lengths = [0, 1, 2, 9, 250, 254, 255, 256, 257, 510, 511, 512, 766];
+    for (available, n, le) in triples(buffers, lengths, [0, 1, 256, 257, 65_535]) {
+        let asked = chains::Asked::new(inputs.one_of(MADE), &row[..n], le, available);
         asked.cut(tally, (inputs.below(3), inputs.below(2)), 30);
     }
     for _ in 0..40 {
         let (n, available) = (inputs.below(65_536), 10 + inputs.below(65_600));
-        let le = some_expected(inputs) as u16;
+        let le = some_expected(inputs, &EXPECTED) as u16;
         let asked = chains::Asked::new(some_header(inputs), &row[..n], le, available);
         asked.cut(tally, (inputs.below(3), 1), 50);
     }
@@ -226,18 +190,14 @@ fn every_buffer(tally: &mut Tally, inputs: &mut Inputs) {
 /// Chains that are not made: 3, 13, and 14 for every buffer under 10.
 fn not_made(tally: &mut Tally, inputs: &mut Inputs) {
     let row = inputs.bytes(131_072);
-    for (n, available, header) in
-        triples(lengths().chain([65_791, 65_792, 131_072]), (0..=10).chain([261]), [HEADERS[0], HEADERS[5], HEADERS[6]])
-    {
-        for le in [0, 1, 257] {
-            if n > 300 && available == 10 {
-                continue;
-            }
+    let lengths = lengths().chain([65_791, 65_792, 131_072]);
+    let cases = triples(lengths, (0..=10).chain([261]), [HEADERS[0], HEADERS[5], HEADERS[6]]);
+    for ((n, available, header), le) in pairs(cases, [0, 1, 257]) {
+        if n <= 300 || available != 10 {
             let mut asked = chains::Asked::new(header, &row[..n], le, available);
             asked.cut(tally, (1, 1), 9);
             asked.chain.place = inputs.below(4);
-            let into = (20, inputs.below(3), inputs.below(7));
-            asked.next_at(tally, into);
+            chains::next(asked, inputs.below(3)).compare(tally, 20, inputs.below(7));
         }
     }
 }
@@ -246,7 +206,7 @@ fn not_made(tally: &mut Tally, inputs: &mut Inputs) {
 fn random_piece(tally: &mut Tally, inputs: &mut Inputs) {
     let row = inputs.row();
     let n = some_len(inputs).min(row.len());
-    let le = some_expected(inputs) as u16;
+    let le = some_expected(inputs, &EXPECTED) as u16;
     let available = some_len(inputs);
     let mut asked = chains::Asked::new(some_header(inputs), &row[..n], le, available);
     asked.chain.place = match inputs.below(8) {
@@ -256,20 +216,15 @@ fn random_piece(tally: &mut Tally, inputs: &mut Inputs) {
         _ => inputs.below(n + 1),
     };
     asked.chain.done = inputs.below(16) == 0;
-    let buffer_len = match inputs.below(4) {
-        0 => inputs.below(20),
-        _ => inputs.below(300),
-    };
+    let most = inputs.one_of(&[20, 300, 300, 300]);
+    let buffer_len = inputs.below(most);
     let at = match inputs.below(16) {
         0 => buffer_len + inputs.below(3),
         1 => usize::MAX - inputs.below(12),
         _ => inputs.below(8),
     };
-    let len = match inputs.below(8) {
-        0 => inputs.below(5),
-        _ => 5 + inputs.below(2),
-    };
-    asked.next_at(tally, (buffer_len, at, len));
+    let len = if inputs.below(8) == 0 { inputs.below(5) } else { 5 + inputs.below(2) };
+    chains::next(asked, at).compare(tally, buffer_len, len);
 }
 
 /// A whole chain of any data, and single pieces of others.
@@ -290,10 +245,9 @@ pub fn random_chain(tally: &mut Tally, inputs: &mut Inputs) {
         _ => inputs.below(2_000),
     };
     let n = n.min(row.len());
-    let le = some_expected(inputs) as u16;
+    let le = some_expected(inputs, &EXPECTED) as u16;
     let asked = chains::Asked::new(some_header(inputs), &row[..n], le, available);
-    let around = (inputs.below(3), inputs.below(3));
-    asked.cut(tally, around, 1 + inputs.below(40));
+    asked.cut(tally, (inputs.below(3), inputs.below(3)), 1 + inputs.below(40));
 }
 
 pub fn compare(tally: &mut Tally, inputs: &mut Inputs) {

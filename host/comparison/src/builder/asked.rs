@@ -6,7 +6,7 @@ use std::fmt;
 
 use gorvisclen::{EXTENDED_SUPPORTED, SHORT_ONLY};
 use opened::command::class::Class;
-use opened::command::{short_only, ChainedCommandIterator, CommandBuilder, ExpectedLen};
+use opened::command::{short_only, CommandBuilder, ExpectedLen};
 
 use crate::call::Given;
 use crate::lent::Hex;
@@ -56,44 +56,49 @@ impl<'a> Asked<'a> {
     /// The Rust's builder; 3 where the Rust has no such class, 13 where it panics.
     #[inline(always)]
     pub fn made(&self) -> Result<Builder<'a>, u8> {
-        if self.mode == SHORT_ONLY && !self.is_inside() {
-            return self.first_piece();
+        match self.mode {
+            SHORT_ONLY => self.made_apart(),
+            _ if self.data.len() > 65_535 => self.made_apart(),
+            _ => self.unchecked(),
         }
-        let Asked { header: [class, instruction, p1, p2], mode, data, .. } = *self;
+    }
+
+    /// The same where that takes long, or where it panics.
+    #[inline(never)]
+    fn made_apart(&self) -> Result<Builder<'a>, u8> {
+        unless_too_long(self.data, || self.unchecked())
+    }
+
+    #[inline(always)]
+    fn unchecked(&self) -> Result<Builder<'a>, u8> {
+        let [class, instruction, p1, p2] = self.header;
         let class = Class::try_from(class).map_err(|_| 3)?;
+        let (instruction, data) = (instruction.into(), self.data);
         let le = u16::try_from(self.le).map_or(ExpectedLen::Max, ExpectedLen::Ne);
-        unless_too_long(data, || match mode {
-            SHORT_ONLY => short_only(class, instruction.into(), [p1, p2], data, le),
-            EXTENDED_SUPPORTED => CommandBuilder::new(class, instruction.into(), p1, p2, data, le),
-            _ => CommandBuilder::new(class, instruction.into(), p1, p2, data, le).force_extended(),
+        let new = || CommandBuilder::new(class, instruction, p1, p2, data, le);
+        Ok(match self.mode {
+            EXTENDED_SUPPORTED => new(),
+            SHORT_ONLY if self.is_inside() => short_only(class, instruction, [p1, p2], data, le),
+            SHORT_ONLY => {
+                // A chain takes no Max. It is asked for one here only where it panics.
+                let (le, long) = (self.le.min(65_535) as u16, Some(usize::MAX / 2));
+                let mut chain = CommandBuilder::new_non_extended(class, instruction, p1, p2, data, le, long);
+                let whole = chain.next().unwrap();
+                assert!(chain.next().is_none());
+                whole
+            }
+            _ => new().force_extended(),
         })
     }
-
-    /// The only piece of a chain. That takes no Max: it is asked for one here only where it panics.
-    #[inline(never)]
-    fn first_piece(&self) -> Result<Builder<'a>, u8> {
-        let mut chain = chain_of(self.header, self.data, self.le.min(65_535) as u16, Some(usize::MAX / 2))?;
-        let whole = chain.next().unwrap();
-        assert!(chain.next().is_none());
-        Ok(whole)
-    }
 }
 
-/// What is made of these data; 13 where they are too long, so that it panics.
+/// What the Rust makes of these data; 13 where they are too long, so that it panics.
 #[inline(always)]
-fn unless_too_long<T>(data: &[u8], make: impl FnOnce() -> T) -> Result<T, u8> {
+pub fn unless_too_long<T>(data: &[u8], make: impl FnOnce() -> Result<T, u8>) -> Result<T, u8> {
     match data.len() {
-        0..=65_535 => Ok(make()),
-        n => unless_it_panics(make).map_or(Err(13), |_| panic!("no panic of the Rust's for {n} bytes")),
+        0..=65_535 => make(),
+        _ => Err(unless_it_panics(make).map_or(13, |made| made.err().expect("a panic of the Rust's"))),
     }
-}
-
-/// A chain of the Rust, as a host makes it, for a buffer of a length; 3 where the Rust has no such class, 13 where it panics.
-#[inline(always)]
-pub fn chain_of(header: [u8; 4], data: &[u8], le: u16, len: Option<usize>) -> Result<ChainedCommandIterator<'_>, u8> {
-    let [class, instruction, p1, p2] = header;
-    let class = Class::try_from(class).map_err(|_| 3)?;
-    unless_too_long(data, || CommandBuilder::new_non_extended(class, instruction.into(), p1, p2, data, le, len))
 }
 
 /// The bytes of a command of the Rust.

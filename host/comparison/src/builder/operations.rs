@@ -48,12 +48,8 @@ pub fn length(asked: Asked<'_>) -> impl Call<1> + '_ {
         (asked.name(names!("CommandBuilder::required_len")), &[]),
         asked,
         |&Asked { header, le, mode, data }, _, out| gorvisclen::required_len(header, le, mode, data, out),
-        |asked, _| Ok([asked.made()?.required_len() as u64].into()),
+        |asked, _| Ok([asked.same(asked.made()?.required_len(), asked.required_len()) as u64].into()),
     )
-    .held_to(|asked, _| {
-        let len = asked.made()?.required_len();
-        Ok([asked.same(len, asked.required_len()) as u64].into())
-    })
     .recorded_as(Operation::RequiredLen)
 }
 
@@ -63,14 +59,13 @@ pub fn force(asked: Asked<'_>) -> impl Call<1> + '_ {
         (asked.name(names!("CommandBuilder::force_extended")), &[]),
         asked,
         |&Asked { header, le, mode, data }, _, out| gorvisclen::force_extended(header, le, mode, data, out),
-        |asked, _| Ok([asked.made()?.force_extended().required_len() as u64].into()),
+        |asked, _| {
+            let made = asked.made()?;
+            let forced = unless_it_panics(|| made.force_extended().required_len());
+            let model = (asked.mode != SHORT_ONLY).then(|| Asked { mode: EXTENDED_FORCED, ..*asked }.required_len());
+            Ok([asked.same(forced, model).ok_or(15)? as u64].into())
+        },
     )
-    .held_to(|asked, _| {
-        let made = asked.made()?;
-        let forced = unless_it_panics(|| made.force_extended().required_len());
-        let model = (asked.mode != SHORT_ONLY).then(|| Asked { mode: EXTENDED_FORCED, ..*asked }.required_len());
-        Ok([asked.same(forced, model).ok_or(15)? as u64].into())
-    })
     .recorded_as(Operation::ForceExtended)
 }
 
@@ -90,21 +85,16 @@ pub fn equals<'a>(asked: Asked<'a>, apdu: &'a [u8]) -> impl Call<1> + 'a {
         (asked, Hex(apdu)),
         |&(Asked { header, le, mode, data }, apdu), _, out| gorvisclen::builder_eq(header, le, mode, data, &apdu, out),
         |(asked, apdu), _| {
-            let builder = asked.made()?;
-            let view = CommandView::try_from(apdu.0).map_err(|_| 5)?;
-            Ok([(builder == view).into()].into())
+            let (builder, model) = match (asked.made(), model_equals(asked, apdu)) {
+                (Ok(builder), Ok(model)) => (builder, model),
+                (Err(one), Err(other)) => return Err(one.min(other)),
+                (Err(number), _) | (_, Err(number)) => return Err(number),
+            };
+            let view = CommandView::try_from(apdu.0).unwrap();
+            let [equal, _] = asked.same([builder == view, view == builder], [model; 2]);
+            Ok([equal.into()].into())
         },
     )
-    .held_to(|(asked, apdu), _| {
-        let (builder, model) = match (asked.made(), model_equals(asked, apdu)) {
-            (Ok(builder), Ok(model)) => (builder, model),
-            (Err(one), Err(other)) => return Err(one.min(other)),
-            (Err(number), _) | (_, Err(number)) => return Err(number),
-        };
-        let view = CommandView::try_from(apdu.0).unwrap();
-        let [equal, _] = asked.same([builder == view, view == builder], [model; 2]);
-        Ok([equal.into()].into())
-    })
     .recorded_as(Operation::BuilderEq)
 }
 

@@ -2,9 +2,11 @@
 //! save where one is written: the Rust's is then made beforehand; a call of ours makes it too. It writes to the front of a buffer.
 
 use gorvisclen::{EXTENDED_FORCED, EXTENDED_SUPPORTED};
+use opened::command::CommandView;
 
 use super::asked::{Asked, Builder};
 use super::operations::{equals, force, length, write};
+use crate::call::Call;
 use crate::loops::{pairs, triples};
 use crate::timing::{ours, Lines, Size, HEADER, NO_LIMIT};
 
@@ -58,21 +60,38 @@ fn writing(lines: &mut Lines) {
     }
 }
 
+#[inline(never)]
+fn of_built(asked: &Asked, out: &mut [u64], number: impl Fn(Builder) -> u64) -> u8 {
+    let Ok(builder) = asked.made() else {
+        return 3;
+    };
+    out[0] = number(builder);
+    0
+}
+
+/// Times a call beside a number that the Rust's builder gives, which is made in the call.
+fn number(lines: &mut Lines, name: &str, (asked, call): (Asked, impl Call<1>), number: impl Fn(Builder) -> u64 + Copy) {
+    let by_rust = |asked: &Asked, _: &mut [u8], out: &mut [u64]| of_built(asked, out, number);
+    lines.sides((name, NO_LIMIT), Size { out: 1, ..Size::default() }, (&[asked], &[call]), by_rust, ours);
+}
+
 fn equality(lines: &mut Lines, words: &str, data: &[u8], other: &[u8]) {
-    let asked = |data| Asked::new(HEADER, 256, EXTENDED_SUPPORTED, data);
-    let apdu = asked(other).bytes();
-    lines.calls(&format!("equal, {words}"), NO_LIMIT, &[equals(asked(data), &apdu)], Size::default());
+    let [asked, other] = [data, other].map(|data| Asked::new(HEADER, 256, EXTENDED_SUPPORTED, data));
+    let apdu = &other.bytes()[..];
+    // A number that is none where the Rust does not read it.
+    let equal = move |builder: Builder| CommandView::try_from(apdu).map_or(2, |view| (builder == view).into());
+    number(lines, &format!("equal, {words}"), (asked, equals(asked, apdu)), equal);
 }
 
 pub fn time(lines: &mut Lines) {
     writing(lines);
     let data = [0xAA; 4_096];
     for ((mode, of_mode), (n, words)) in pairs(MODES, [(0, "no data"), (16, "16 bytes"), (256, "256 bytes")]) {
-        let asked = Asked::new(HEADER, 256, mode, &data[..n]);
-        lines.calls(&format!("length {of_mode}, {words}, Le"), NO_LIMIT, &[length(asked)], Size::default());
+        let (name, asked) = (format!("length {of_mode}, {words}, Le"), Asked::new(HEADER, 256, mode, &data[..n]));
+        number(lines, &name, (asked, length(asked)), |builder| builder.required_len() as u64);
     }
-    let asked = Asked::new(HEADER, 256, EXTENDED_SUPPORTED, &data[..16]);
-    lines.calls("length once forced, 16 bytes, Le", NO_LIMIT, &[force(asked)], Size::default());
+    let (name, asked) = ("length once forced, 16 bytes, Le", Asked::new(HEADER, 256, EXTENDED_SUPPORTED, &data[..16]));
+    number(lines, name, (asked, force(asked)), |builder| builder.force_extended().required_len() as u64);
     for (n, words) in [(16, "16 bytes"), (255, "255 bytes"), (4_096, "4,096 bytes")] {
         equality(lines, words, &data[..n], &data[..n]);
     }

@@ -1,8 +1,12 @@
-//! Chains in short mode: made, and cut piece by piece into lent buffers.
+//! Chains in short mode: made, and cut piece by piece into lent buffers. `opened` shows what is left of a chain of the Rust.
 
-use gorvisclen::{Pieces, PIECE_NUMBERS};
+use std::iter;
 
-use super::rust;
+use gorvisclen::{Pieces, BUFFER_LEN, PIECE_NUMBERS, SHORT_ONLY};
+use opened::command::class::Class;
+use opened::command::{self, ChainedCommandIterator, CommandBuilder};
+
+use crate::builder::{self, bytes_of, expected, unless_too_long};
 use crate::call::{call, Call, Given, Left};
 use crate::lent::{bytes, Hex};
 use crate::record::{Handed, Operation};
@@ -61,8 +65,11 @@ pub fn new(asked: Asked<'_>) -> impl Call<0> + '_ {
     .recorded_as(Operation::NewNonExtended)
 }
 
+/// A piece of a chain: its bytes, and the numbers that `Pieces::write_next` writes.
+type Piece = (Vec<u8>, [u64; PIECE_NUMBERS]);
+
 /// What is left where this is the piece, or where none is left.
-fn left<'a>(piece: Option<rust::Piece>, at: usize) -> Left<'a, PIECE_NUMBERS> {
+fn left<'a>(piece: Option<Piece>, at: usize) -> Left<'a, PIECE_NUMBERS> {
     match piece {
         Some((bytes, numbers)) => Left::written(numbers, at, bytes),
         None => [0; PIECE_NUMBERS].into(),
@@ -81,15 +88,14 @@ pub fn next(asked: Asked<'_>, at: usize) -> impl Call<PIECE_NUMBERS> + '_ {
         (asked, [asked.chain.place, asked.chain.done.into(), at]),
         |&(Asked { chain, data }, [.., at]), to, out| chain.write_next(&data, to, at, out),
         |&(asked, [.., at]), _| {
-            let Pieces { header, le, available, place, done } = asked.chain;
-            if done {
+            if asked.chain.done {
                 return Ok(left(None, at));
             }
-            if available < 10 {
-                return asked.of_rust().map(|_| left(None, at));
-            }
-            let mut chain = rust::Chain::at(header, asked.data.0, (le, place), available)?;
-            Ok(left(chain.next(), at))
+            asked.of_rust()?;
+            let Pieces { header, le, available, place, .. } = asked.chain;
+            let rest = &asked.data[place.min(asked.data.len())..];
+            let rest = builder::Asked::new(header, le.into(), SHORT_ONLY, rest).made()?;
+            Ok(left(asked.piece(&mut command::chain(rest, available)), at))
         },
     )
     .recorded_as(Operation::WriteNext)
@@ -98,18 +104,31 @@ pub fn next(asked: Asked<'_>, at: usize) -> impl Call<PIECE_NUMBERS> + '_ {
 impl<'a> Asked<'a> {
     pub fn new(header: [u8; 4], data: &'a [u8], le: u16, available: usize) -> Self {
         let chain = Pieces { header, le, available, place: 0, done: false };
-        let data = Hex(data);
-        Asked { chain, data }
+        Asked { chain, data: Hex(data) }
     }
 
-    /// The chain of the Rust; 14 for a buffer under 10, behind its own refusals.
-    pub fn of_rust(&self) -> Result<rust::Chain<'a>, u8> {
-        let Pieces { header, le, available, .. } = self.chain;
-        let made = rust::Chain::new(header, self.data.0, le, available)?;
-        match available {
-            0..=9 => Err(14),
-            _ => Ok(made),
-        }
+    /// The chain of the Rust from its beginning; 14 for a buffer under 10, behind its own refusals.
+    #[inline(always)]
+    pub fn of_rust(&self) -> Result<ChainedCommandIterator<'a>, u8> {
+        let (Pieces { header: [class, instruction, p1, p2], le, available, .. }, data) = (self.chain, self.data.0);
+        let made = unless_too_long(data, || {
+            let (class, instruction) = (Class::try_from(class).map_err(|_| 3)?, instruction.into());
+            // The default buffer is not named.
+            let buffer_len = (available != BUFFER_LEN).then_some(available);
+            Ok(CommandBuilder::new_non_extended(class, instruction, p1, p2, data, le, buffer_len))
+        })?;
+        (available >= 10).then_some(made).ok_or(14)
+    }
+
+    /// The next piece of a chain of the Rust with these data; none is left whenever asked after the last one.
+    fn piece(&self, chain: &mut ChainedCommandIterator) -> Option<Piece> {
+        let bytes = bytes_of(&chain.next()?);
+        let n = bytes.len() as u64;
+        let [more, place, le] = command::left(chain).map_or([0; 3], |rest| {
+            let place = self.data.len() - rest.data().len();
+            [1, place as u64, expected(command::fields(&rest).1)]
+        });
+        Some((bytes, [1, n, more, place, le]))
     }
 
     /// Compares a whole chain, piece by piece, each written from the place `before` of a buffer with `behind` bytes more than it may
@@ -120,13 +139,12 @@ impl<'a> Asked<'a> {
             return;
         };
         let mut asked = *self;
-        let mut turn = 0;
-        let mut held = |asked, piece: Option<rust::Piece>, (len, at, out): (_, _, _)| {
+        let mut held = |asked, piece: Option<Piece>, (len, at, out): (_, _, _)| {
             let name = if piece.is_some() { NEXT } else { NONE_LEFT };
             let answer = Ok(left(piece, at));
             next(asked, at).held(tally, (name, &[]), &answer, &bytes(len), out);
         };
-        while let Some(piece) = theirs.next() {
+        for (turn, piece) in iter::from_fn(|| self.piece(&mut theirs)).enumerate() {
             assert!(piece.0.len() <= self.chain.available);
             let exact = before + piece.0.len();
             if turn % short == short - 1 {
@@ -134,19 +152,13 @@ impl<'a> Asked<'a> {
                     held(asked, Some(piece.clone()), into);
                 }
             }
-            let into = (exact + behind, before, 5 + turn % 2);
-            held(asked, Some(piece.clone()), into);
-            asked.chain = asked.chain.behind(piece.1);
-            turn += 1;
+            let next = asked.chain.behind(piece.1);
+            held(asked, Some(piece), (exact + behind, before, 5 + turn % 2));
+            asked.chain = next;
         }
         for len in [5, 6, 4, 0] {
             assert!(theirs.next().is_none());
             held(asked, None, (before + behind, before, len));
         }
-    }
-
-    /// Compares the next piece of a chain in any state, into a buffer of a length, from a place.
-    pub fn next_at(self, tally: &mut Tally, (buffer_len, at, len): (usize, usize, usize)) {
-        next(self, at).compare(tally, buffer_len, len);
     }
 }

@@ -39,16 +39,19 @@ const STEPS: [Row; 16] = [
     (2, 11, 5, 1, Some((2, 1))),
 ];
 
-/// The expected length, how many data bytes, the buffer, and of the pieces the data bytes and the bytes in all.
-type Cut = (u16, usize, usize, &'static [(usize, usize)]);
+/// The expected length, how many data bytes, the buffer, and of the pieces the data bytes and the bytes in all, or a refusal.
+type Cut = (u16, usize, usize, Result<&'static [[usize; 2]], u8>);
 
-const CUTS: [Cut; 6] = [
-    (256, 255, 261, &[(255, 261)]),
-    (0, 256, 261, &[(254, 259), (2, 7)]),
-    (5, 256, 261, &[(252, 257), (4, 10)]),
-    (256, 600, 261, &[(252, 257), (252, 257), (96, 102)]),
-    (1, 5, 10, &[(4, 9), (1, 7)]),
-    (257, 0, 10, &[(0, 5)]),
+const CUTS: [Cut; 9] = [
+    (256, 255, 261, Ok(&[[255, 261]])),
+    (0, 256, 261, Ok(&[[254, 259], [2, 7]])),
+    (5, 256, 261, Ok(&[[252, 257], [4, 10]])),
+    (256, 600, 261, Ok(&[[252, 257], [252, 257], [96, 102]])),
+    (1, 5, 10, Ok(&[[4, 9], [1, 7]])),
+    (257, 0, 10, Ok(&[[0, 5]])),
+    (1, 300, 9, Err(14)),
+    (0, 0, 9, Err(14)),
+    (0, 65_536, 261, Err(13)),
 ];
 
 pub fn steps(tally: &mut Tally) {
@@ -71,48 +74,32 @@ pub fn steps(tally: &mut Tally) {
 }
 
 /// The sizes of the pieces that a chain writes, or the number of a refusal.
-fn sizes(chain: Result<Pieces, Refused>, data: &[u8]) -> Result<Vec<(usize, usize)>, Refused> {
-    let mut chain = chain?;
-    let mut sizes = vec![];
-    let mut buffer = [0; 261];
-    while sizes.len() < 1_000 {
-        let mut told = [0; PIECE_NUMBERS];
+fn sizes(le: u16, data: &[u8], available: usize) -> Result<Vec<[usize; 2]>, Refused> {
+    let mut chain = Pieces::new_non_extended(HEADER, data, le, available)?;
+    let (mut sizes, mut buffer, mut told) = (vec![], [0; 261], [0; PIECE_NUMBERS]);
+    loop {
         chain.write_next(data, &mut buffer, 0, &mut told)?;
-        if told[0] == 0 {
-            break;
+        if told[0] == 0 || sizes.len() == 1_000 {
+            return Ok(sizes);
         }
         let next = chain.behind(told);
         let end = if next.done { data.len() } else { next.place };
-        sizes.push((end - chain.place, told[1] as usize));
+        sizes.push([end - chain.place, told[1] as usize]);
         chain = next;
     }
-    Ok(sizes)
 }
 
 pub fn pieces(tally: &mut Tally) {
     let data = vec![0xAA; 65_536];
-    let mut held = |le, n, available, demanded: Result<Vec<(usize, usize)>, Refused>| {
-        let chain = Pieces::new_non_extended(HEADER, &data[..n], le, available);
-        let outcome = |sizes: Result<Vec<(usize, usize)>, Refused>| {
-            let numbers_of = sizes.clone().unwrap_or_default();
-            let mut out = numbers(240);
-            for (i, (d, len)) in numbers_of.into_iter().take(120).enumerate() {
-                out.part()[2 * i] = d as u64;
-                out.part()[2 * i + 1] = len as u64;
-            }
-            Outcome::new(sizes.map(|_| ()), out, bytes(0))
+    let many = [vec![[1, 6]; 45], vec![[4, 9]; 63], vec![[3, 9]]].concat();
+    for (le, n, available, demanded) in CUTS.into_iter().chain([(1, 300, 10, Ok(&many[..]))]) {
+        let outcome = |sizes: Result<&[[usize; 2]], Refused>| {
+            let read = sizes.unwrap_or_default().as_flattened().iter().flat_map(|size| size.to_be_bytes()).collect();
+            Outcome::new(sizes.map(|_| ()), numbers(0), bytes(0)).reading(read)
         };
+        let ours = sizes(le, &data[..n], available);
+        let [theirs, ours] = [demanded.map_err(Refused), ours.as_deref().map_err(|refused| *refused)].map(outcome);
         let input = || format!("{n} data bytes, le {le}, buffer of {available} bytes");
-        let ours = sizes(chain, &data[..n]);
-        tally.compare((PIECES, &[]), input, &outcome(demanded), &outcome(ours));
-    };
-    for (le, n, available, sizes) in CUTS {
-        held(le, n, available, Ok(sizes.to_vec()));
+        tally.compare((PIECES, &[]), input, &theirs, &ours);
     }
-    let many = [vec![(1, 6); 45], vec![(4, 9); 63], vec![(3, 9)]].concat();
-    assert_eq!(many.len(), 109);
-    held(1, 300, 10, Ok(many));
-    held(1, 300, 9, Err(Refused(14)));
-    held(0, 0, 9, Err(Refused(14)));
-    held(0, 65_536, 261, Err(Refused(13)));
 }

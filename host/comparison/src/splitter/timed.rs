@@ -4,9 +4,8 @@
 //! once to make the chain.
 
 use gorvisclen::{Pieces, Reply, BUFFER_LEN, EXTENDED_SUPPORTED, PIECE_NUMBERS};
-use opened::command::class::Class;
-use opened::command::CommandBuilder;
 
+use super::chains;
 use super::steps::step;
 use crate::builder::{Asked, Builder};
 use crate::call::Call;
@@ -37,23 +36,11 @@ fn one_step(lines: &mut Lines, name: &str, data: &[u8]) {
     );
 }
 
-/// One command: what it expects, its data, and the most bytes of a piece.
-#[derive(Clone, Copy)]
-struct Sample<'a> {
-    le: u16,
-    data: &'a [u8],
-    available: usize,
-}
-
 #[inline(never)]
-fn by_rust(sample: &Sample, buffer: &mut [u8], out: &mut [u64]) -> u8 {
-    let [class, instruction, p1, p2] = HEADER;
-    let Ok(class) = Class::try_from(class) else {
+fn by_rust(asked: &chains::Asked, buffer: &mut [u8], out: &mut [u64]) -> u8 {
+    let Ok(chain) = asked.of_rust() else {
         return 3;
     };
-    let &Sample { le, data, available } = sample;
-    let (instruction, len) = (instruction.into(), Some(available));
-    let chain = CommandBuilder::new_non_extended(class, instruction, p1, p2, data, le, len);
     out.fill(0);
     for piece in chain {
         let mut rest = &mut buffer[..];
@@ -68,12 +55,13 @@ fn by_rust(sample: &Sample, buffer: &mut [u8], out: &mut [u64]) -> u8 {
 }
 
 #[inline(never)]
-fn by_ours(sample: &Sample, buffer: &mut [u8], out: &mut [u64]) -> Reply {
-    let mut chain = Pieces::new_non_extended(HEADER, sample.data, sample.le, sample.available)?;
+fn by_ours(asked: &chains::Asked, buffer: &mut [u8], out: &mut [u64]) -> Reply {
+    let Pieces { header, le, available, .. } = asked.chain;
+    let mut chain = Pieces::new_non_extended(header, &asked.data, le, available)?;
     out.fill(0);
     while !chain.done {
         let mut told = [0; PIECE_NUMBERS];
-        chain.write_next(sample.data, buffer, 0, &mut told)?;
+        chain.write_next(&asked.data, buffer, 0, &mut told)?;
         out[0] += 1;
         out[1] += told[1];
         chain = chain.behind(told);
@@ -87,15 +75,13 @@ pub fn time(lines: &mut Lines) {
         one_step(lines, &format!("one step for {BUFFER_LEN}, {words}"), &data[..n]);
     }
     for (available, (n, words), (le, with)) in triples([BUFFER_LEN, 10], LENGTHS, [(0, ""), (256, ", Le")]) {
-        let data = &data[..n];
-        let sample = Sample { le, data, available };
-        let (to, out, bytes) = (available, 2, 40 * n);
+        let asked = chains::Asked::new(HEADER, &data[..n], le, available);
         lines.sides(
             (&format!("cut for {available}, {words}{with}"), MOST),
-            Size { to, out, bytes },
-            (&[sample], &[sample]),
+            Size { to: available, out: 2, bytes: 40 * n },
+            (&[asked], &[asked]),
             by_rust,
-            |sample, to, out| told(by_ours(sample, to, out)),
+            |asked, to, out| told(by_ours(asked, to, out)),
         );
     }
 }
