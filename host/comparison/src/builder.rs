@@ -83,8 +83,8 @@ fn other_data(inputs: &mut Inputs, asked: Asked) -> Vec<Vec<u8>> {
     apdus
 }
 
-/// Held against commands that are equal, that differ in one field, and that are refused. Equal are its own bytes, in which Le is
-/// lowered and Max is 65,536, and its fields in both forms.
+/// Held against commands that are equal, that differ in one field, and that are refused. Equal are its own bytes, in
+/// which Le is lowered and Max is 65,536, and its fields in both forms.
 fn every_comparison(tally: &mut Tally, inputs: &mut Inputs, asked: Asked) {
     let in_form = |mode| Asked { le: asked.compared(), mode, ..asked };
     let mut apdus = vec![asked.bytes(), in_form(EXTENDED_SUPPORTED).bytes(), in_form(EXTENDED_FORCED).bytes()];

@@ -1,4 +1,4 @@
-//! Chains in short mode: made, and cut piece by piece into lent buffers. `opened` shows what is left of a chain of the Rust.
+//! Chains in short mode: made, and cut piece by piece into lent buffers. `opened` shows what the Rust has left of one.
 
 use std::iter;
 

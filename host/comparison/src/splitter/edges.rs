@@ -39,7 +39,7 @@ const STEPS: [Row; 16] = [
     (2, 11, 5, 1, Some((2, 1))),
 ];
 
-/// The expected length, how many data bytes, the buffer, and of the pieces the data bytes and the bytes in all, or a refusal.
+/// The expected length, how many data bytes, the buffer; and of each piece its data bytes and all bytes, or a refusal.
 type Cut = (u16, usize, usize, Result<&'static [[usize; 2]], u8>);
 
 const CUTS: [Cut; 9] = [

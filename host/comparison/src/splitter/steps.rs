@@ -71,8 +71,8 @@ fn written(asked: Asked, available: usize) -> [Vec<u8>; 2] {
     })
 }
 
-/// Writes both parts of a split by the numbers told, and compares their bytes, in the modes in which a host makes such a builder. The
-/// first part of a class 0xEF has 0xFF, of which it makes none: the chains show its bytes.
+/// Writes both parts of a split by the numbers told, and compares their bytes, in the modes in which a host makes such
+/// builders. The first part of a class 0xEF has 0xFF, of which it makes none: the chains show its bytes.
 pub fn parts(tally: &mut Tally, asked: Asked, available: usize) {
     if asked.header[0] == 0xEF || asked.mode == SHORT_ONLY {
         return;
