@@ -14,8 +14,8 @@ pub const SEED: u64 = 7816;
 const LEAST: usize = 24;
 
 /// Fewer than so many there are of an operation that is done, and of one that is refused with one number.
-const MOST: usize = 256;
-const MOST_REFUSED: usize = 128;
+const MOST: usize = 320;
+const MOST_REFUSED: usize = 160;
 
 /// So many bytes of a string at most stand beside its filling.
 const LONGEST: usize = 100;
