@@ -89,8 +89,11 @@ pub fn check<T: PartialEq + std::fmt::Debug>(name: &str, theirs: T, ours: T) {
     }
 }
 
+/// What a side does with what is lent, and replies.
+type Side<'a> = &'a dyn Fn(&mut [u8], &mut [u64]) -> u8;
+
 /// Checks that two sides leave the same in what is lent.
-fn check_left(name: &str, size: Size, sides: [&dyn Fn(&mut [u8], &mut [u64]) -> u8; 2]) {
+fn check_left(name: &str, size: Size, sides: [Side; 2]) {
     let [theirs, ours] = sides.map(|side| {
         let (mut to, mut out) = (vec![7; size.to], vec![7; size.out]);
         (side(&mut to, &mut out), to, out)

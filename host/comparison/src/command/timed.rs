@@ -114,6 +114,9 @@ fn nanoseconds<S>(new: impl Fn() -> S, done: impl Fn(&mut S) -> u8) -> f64 {
     })
 }
 
+/// Adds pieces in a room, and tells so many numbers.
+type Adds<const TOLD: usize> = fn(&[&[u8]], &mut [u8], &mut [u64; TOLD]) -> Reply;
+
 /// Times the adding of pieces, as so many calls, in a room of `N` bytes, which they fill. The Rust parses each and extends a command
 /// by it that has no data at first. Ours tells the numbers of the command that comes of it, behind `front`.
 pub fn adding<const N: usize, const TOLD: usize>(
@@ -121,7 +124,7 @@ pub fn adding<const N: usize, const TOLD: usize>(
     (name, most): (&str, f64),
     (pieces, calls): (&[&[u8]], usize),
     front: &[u64],
-    ours: fn(&[&[u8]], &mut [u8], &mut [u64; TOLD]) -> Reply,
+    ours: Adds<TOLD>,
 ) {
     let none_held = || Box::new(Command::<N>::try_from(&HEADER).unwrap());
     let lent = || (vec![1; N], [0; TOLD]);

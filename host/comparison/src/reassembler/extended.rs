@@ -52,7 +52,7 @@ fn beside<const S: usize>(tally: &mut Tally, pieces: &[Vec<u8>], filled: usize) 
 
 /// A chain beside the Rust, at times in a long room.
 pub fn chain(tally: &mut Tally, inputs: &mut Inputs, turn: usize) {
-    let rooms = if turn % 50 == 0 { &LONG_ROOMS[..] } else { &SHORT_ROOMS };
+    let rooms = if turn.is_multiple_of(50) { &LONG_ROOMS[..] } else { &SHORT_ROOMS };
     let (room_len, beside) = inputs.one_of(rooms);
     let mut header = some_header(inputs);
     header[0] |= BIT;
