@@ -92,7 +92,7 @@ fn made<const CHAINED: bool>(cla: u8) -> Result<Numbers, u8> {
     Ok(of_class(if CHAINED { class.as_chained() } else { class }))
 }
 
-/// The class of a byte, or the same with its chaining bit set. The Rust has no standard reading, which the tables stand for.
+/// The class of a byte, or the same with its chaining bit set. The tables stand for the standard reading.
 fn make<const CHAINED: bool>(cla: u8) -> impl Call<CLASS_NUMBERS> {
     let (name, operation) = match CHAINED {
         true => ("Class::as_chained", Operation::ClassAsChained),

@@ -10,6 +10,7 @@ use crate::inputs::Inputs;
 use crate::loops::pairs;
 use crate::tally::Tally;
 
+/// P7, P8 and P9 are read alone, at the front of an object, and in a lookup.
 const EDGES: &str = "the edges P7, P8 and P9 (held to document 01)";
 const RULES: &str = "the rules of BER records, case by case (held to document 01)";
 const INCIDENT: &str = "the incident (held to document 01)";
@@ -19,7 +20,7 @@ const READINGS: [u8; 2] = [CRATE_READING, STANDARD_READING];
 /// What both readings answer: the crate's first.
 type Both<T> = [Result<T, u8>; 2];
 
-/// What a case counts for, strings of bytes in hex, and what their front is.
+/// What cases count for, their bytes in hex, with commas between the cases, and what the front of each is.
 type Fronts<const N: usize> = (&'static str, &'static str, Both<[u64; N]>);
 
 /// Tags, each refusal among them and each row on which the readings part.
@@ -55,6 +56,7 @@ const LENGTHS: [Fronts<LEN_NUMBERS>; 7] = [
     (RULES, ", 80 00, 81, 82 05, FF 00 00", [Err(12); 2]),
 ];
 
+/// Objects, and what is none.
 const OBJECTS: [Fronts<OBJECT_NUMBERS>; 7] = [
     (EDGES, "5F 1E 01 AA", [Ok([0x5F1E, 3, 1]), Err(12)]),
     (EDGES, "5F 80, 5F 80 01, 5F 80 01 AA, C1 83 00 00 01 AA", [Err(12); 2]),
@@ -108,8 +110,8 @@ const LOOKUPS: [Found; 31] = [
     (RULES, "5F 24 01 AA", &[0x5F], [Err(11); 2]),
     (RULES, "5F 24 01 AA", &[0x0100_5F24], [Err(11); 2]),
     (RULES, "5F 24 01 AA", &[0x5F24_01AA], [Err(11); 2]),
-    // A serial number with the bytes of a due date in it. The lookup shows the true due date behind it, and says 11 where there
-    // is none; the same in a template.
+    // A serial number with the bytes of a due date in it. The lookup shows the true due date behind it, and says 11 where
+    // there is none; the same in a template.
     (INCIDENT, "C1 06 5F 24 03 26 10 09 5F 24 03 27 01 31", &[DUE], [Ok((11, DATE)); 2]),
     (INCIDENT, "C1 06 5F 24 03 26 10 09", &[DUE], [Err(11); 2]),
     (INCIDENT, "70 0E C1 06 5F 24 03 26 10 09 5F 24 03 27 01 31", &[TEMPLATE, DUE], [Ok((13, DATE)); 2]),
@@ -125,6 +127,7 @@ fn unhex(digits: &str) -> Vec<u8> {
     bytes.map(|byte| u8::from_str_radix(byte, 16).unwrap()).collect()
 }
 
+/// Holds what is read at the front of some bytes to a table.
 fn fronts<const N: usize, F: Front<N>>(tally: &mut Tally, _: F, rows: &[Fronts<N>]) {
     for (operation, strings, answers) in rows {
         for (string, (reading, answer)) in pairs(strings.split(','), READINGS.into_iter().zip(*answers)) {
@@ -134,6 +137,7 @@ fn fronts<const N: usize, F: Front<N>>(tally: &mut Tally, _: F, rows: &[Fronts<N
     }
 }
 
+/// Holds a lookup to what both readings find: the value's place and its bytes.
 fn found(tally: &mut Tally, operation: &'static str, record: &[u8], path: &[u32], answers: Both<(usize, &[u8])>) {
     // A copy can be written to, so that a call that does is reported.
     let path = &path.to_vec();

@@ -103,7 +103,7 @@ impl<'a> Lookup<'a> {
 /// The place of a value and its length.
 pub fn find(lookup: Lookup<'_>) -> impl Call<LOOKUP_NUMBERS> + '_ {
     call(
-        lookup.names(&LOOKUP, true),
+        (LOOKUP.some, &[]),
         lookup,
         |lookup, _, out| gorvisclen::get_data_object(lookup.reading, &lookup.record, &lookup.path, out),
         |lookup, _| {

@@ -61,7 +61,7 @@ fn some_value(inputs: &mut Inputs) -> Vec<u8> {
 }
 
 impl Record {
-    /// Adds an object, its length in the shortest form or in another. A value too long for a length of two bytes is cut.
+    /// Adds an object, its length in the shortest form or in another. A value too long for two bytes of length is cut.
     fn add(&mut self, inputs: &mut Inputs, tag: u32, mut value: Record) {
         value.bytes.truncate(65_535);
         let forms = length_forms(value.bytes.len());
