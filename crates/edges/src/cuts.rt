@@ -83,7 +83,7 @@ fn all(start: Pieces, data: &[u8], buffer: &mut [u8; 261]) -> Cut {
 // Cuts data of so many bytes, with these expected length and buffer.
 fn pieces(numbers: [u32; 8], refusal: &[u8], expected: &[u8]) -> usize {
     let mut buffer = [0u8; 261];
-    let bytes = [0xA5u8; 65536];
+    let bytes = io::large_buffer();
     let data = text::part(&bytes, 0, numbers[0] as usize);
     let le = (numbers[1] % 0x10000) as u16;
     let available = numbers[2] as usize;
