@@ -110,8 +110,8 @@ const LOOKUPS: [Found; 31] = [
     (RULES, "5F 24 01 AA", &[0x5F], [Err(11); 2]),
     (RULES, "5F 24 01 AA", &[0x0100_5F24], [Err(11); 2]),
     (RULES, "5F 24 01 AA", &[0x5F24_01AA], [Err(11); 2]),
-    // A serial number with the bytes of a due date in it. The lookup shows the true due date behind it, and says 11 where
-    // there is none; the same in a template.
+    // A serial number with the bytes of a due date in it. The lookup shows the true due date behind it, and says 11
+    // where there is none; the same in a template.
     (INCIDENT, "C1 06 5F 24 03 26 10 09 5F 24 03 27 01 31", &[DUE], [Ok((11, DATE)); 2]),
     (INCIDENT, "C1 06 5F 24 03 26 10 09", &[DUE], [Err(11); 2]),
     (INCIDENT, "70 0E C1 06 5F 24 03 26 10 09 5F 24 03 27 01 31", &[TEMPLATE, DUE], [Ok((13, DATE)); 2]),

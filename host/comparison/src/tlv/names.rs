@@ -4,8 +4,8 @@ use gorvisclen::CRATE_READING;
 
 use crate::tally;
 
-/// The names of an operation: where the Rust reads, where it says `None`, in the standard reading, and in a lookup with a
-/// number in its path that no tag of the Rust can hold.
+/// The names of an operation: where the Rust reads, where it says `None`, in the standard reading, and in a lookup with
+/// a number in its path that no tag of the Rust can hold.
 pub struct Names {
     pub some: &'static str,
     none: &'static str,

@@ -74,8 +74,8 @@ pub fn put(object: Object<'_>, at: usize) -> impl Call<1> + '_ {
     .recorded_as(Operation::PutDataObject)
 }
 
-/// Compares the writing to buffers that an object fits exactly from a place, that are a byte short and a byte longer; and
-/// from places around the end.
+/// Compares the writing to buffers that an object fits exactly from a place, that are a byte short and a byte longer;
+/// and from places around the end.
 fn around_the_end(tally: &mut Tally, object: Object, before: usize) {
     let need = DataSource::len(&rust(object));
     let exact = before + need;
