@@ -6,7 +6,6 @@ use opened::command::CommandView;
 
 use super::asked::{Asked, Builder};
 use super::operations::{equals, force, length, write};
-use crate::call::Call;
 use crate::loops::{pairs, triples};
 use crate::timing::{ours, Lines, Size, HEADER, NO_LIMIT};
 
@@ -60,38 +59,54 @@ fn writing(lines: &mut Lines) {
     }
 }
 
-#[inline(never)]
-fn of_built(asked: &Asked, out: &mut [u64], number: impl Fn(Builder) -> u64) -> u8 {
+/// A number that the Rust's builder gives, which is made in the call.
+#[inline(always)]
+fn of_built(asked: &Asked, out: &mut [u64], number: impl Fn(Builder) -> Option<u64>) -> u8 {
     let Ok(builder) = asked.made() else {
         return 3;
     };
-    out[0] = number(builder);
+    let Some(number) = number(builder) else {
+        return 5;
+    };
+    out[0] = number;
     0
 }
 
-/// Times a call beside a number that the Rust's builder gives, which is made in the call.
-fn number(lines: &mut Lines, name: &str, (asked, call): (Asked, impl Call<1>), number: impl Fn(Builder) -> u64 + Copy) {
-    let by_rust = |asked: &Asked, _: &mut [u8], out: &mut [u64]| of_built(asked, out, number);
-    lines.sides((name, NO_LIMIT), Size { out: 1, ..Size::default() }, (&[asked], &[call]), by_rust, ours);
+#[inline(never)]
+fn len(asked: &Asked, _: &mut [u8], out: &mut [u64]) -> u8 {
+    of_built(asked, out, |builder| Some(builder.required_len() as u64))
 }
+
+#[inline(never)]
+fn forced_len(asked: &Asked, _: &mut [u8], out: &mut [u64]) -> u8 {
+    of_built(asked, out, |builder| Some(builder.force_extended().required_len() as u64))
+}
+
+#[inline(never)]
+fn equal((asked, apdu): &(Asked, &[u8]), _: &mut [u8], out: &mut [u64]) -> u8 {
+    of_built(asked, out, |builder: Builder| CommandView::try_from(*apdu).ok().map(|view| (builder == view).into()))
+}
+
+const SIZE: Size = Size { to: 0, out: 1, bytes: 0 };
 
 fn equality(lines: &mut Lines, words: &str, data: &[u8], other: &[u8]) {
     let [asked, other] = [data, other].map(|data| Asked::new(HEADER, 256, EXTENDED_SUPPORTED, data));
     let apdu = &other.bytes()[..];
-    // A number that is none where the Rust does not read it.
-    let equal = move |builder: Builder| CommandView::try_from(apdu).map_or(2, |view| (builder == view).into());
-    number(lines, &format!("equal, {words}"), (asked, equals(asked, apdu)), equal);
+    let both = (&[(asked, apdu)][..], &[equals(asked, apdu)][..]);
+    lines.sides((&format!("equal, {words}"), NO_LIMIT), SIZE, both, equal, ours);
 }
 
 pub fn time(lines: &mut Lines) {
     writing(lines);
     let data = [0xAA; 4_096];
     for ((mode, of_mode), (n, words)) in pairs(MODES, [(0, "no data"), (16, "16 bytes"), (256, "256 bytes")]) {
-        let (name, asked) = (format!("length {of_mode}, {words}, Le"), Asked::new(HEADER, 256, mode, &data[..n]));
-        number(lines, &name, (asked, length(asked)), |builder| builder.required_len() as u64);
+        let name = format!("length {of_mode}, {words}, Le");
+        let asked = Asked::new(HEADER, 256, mode, &data[..n]);
+        lines.sides((&name, NO_LIMIT), SIZE, (&[asked], &[length(asked)]), len, ours);
     }
-    let (name, asked) = ("length once forced, 16 bytes, Le", Asked::new(HEADER, 256, EXTENDED_SUPPORTED, &data[..16]));
-    number(lines, name, (asked, force(asked)), |builder| builder.force_extended().required_len() as u64);
+    let name = "length once forced, 16 bytes, Le";
+    let asked = Asked::new(HEADER, 256, EXTENDED_SUPPORTED, &data[..16]);
+    lines.sides((name, NO_LIMIT), SIZE, (&[asked], &[force(asked)]), forced_len, ours);
     for (n, words) in [(16, "16 bytes"), (255, "255 bytes"), (4_096, "4,096 bytes")] {
         equality(lines, words, &data[..n], &data[..n]);
     }
