@@ -92,9 +92,9 @@ fn copies<const N: usize>(lines: &mut Lines, words: &str) {
 }
 
 #[inline(never)]
-fn by_rust<const N: usize>(pieces: &[&[u8]], held: &mut Command<N>) -> u8 {
-    for &piece in pieces {
-        let Ok(view) = CommandView::try_from(piece) else {
+fn by_rust<const N: usize>(pieces: &[impl AsRef<[u8]>], held: &mut Command<N>) -> u8 {
+    for piece in pieces {
+        let Ok(view) = CommandView::try_from(piece.as_ref()) else {
             return 5;
         };
         if held.extend_from_command_view(view).is_err() {
@@ -114,17 +114,14 @@ fn nanoseconds<S>(new: impl Fn() -> S, done: impl Fn(&mut S) -> u8) -> f64 {
     })
 }
 
-/// Adds pieces in a room, and tells so many numbers.
-type Adds<const TOLD: usize> = fn(&[&[u8]], &mut [u8], &mut [u64; TOLD]) -> Reply;
-
 /// Times the adding of pieces, as so many calls, in a room of `N` bytes, which they fill. The Rust parses each and extends a command
 /// by it that has no data at first. Ours tells the numbers of the command that comes of it, behind `front`.
-pub fn adding<const N: usize, const TOLD: usize>(
+pub fn adding<const N: usize, const TOLD: usize, P: AsRef<[u8]>>(
     lines: &mut Lines,
     (name, most): (&str, f64),
-    (pieces, calls): (&[&[u8]], usize),
+    (pieces, calls): (&[P], usize),
     front: &[u64],
-    ours: Adds<TOLD>,
+    ours: impl Fn(&[P], &mut [u8], &mut [u64; TOLD]) -> Reply,
 ) {
     let none_held = || Box::new(Command::<N>::try_from(&HEADER).unwrap());
     let lent = || (vec![1; N], [0; TOLD]);
@@ -151,7 +148,7 @@ fn extended(pieces: &[&[u8]], room: &mut [u8], out: &mut [u64; OWNED_NUMBERS]) -
 /// Times the extending by pieces of `N / PIECES` data bytes.
 fn extending<const N: usize>(lines: &mut Lines, words: &str) {
     let (name, piece) = (format!("extend by {words}"), apdu(N / PIECES));
-    adding::<N, OWNED_NUMBERS>(lines, (&name, NO_LIMIT), (&[&piece[..]; PIECES], PIECES), &[], extended);
+    adding::<N, OWNED_NUMBERS, _>(lines, (&name, NO_LIMIT), (&[&piece[..]; PIECES], PIECES), &[], extended);
 }
 
 pub fn time(lines: &mut Lines) {

@@ -32,7 +32,7 @@ fn cut(available: usize) -> Vec<Vec<u8>> {
 }
 
 #[inline(never)]
-fn joined(pieces: &[&[u8]], room: &mut [u8], out: &mut [u64; JOIN_NUMBERS]) -> Reply {
+fn joined(pieces: &[Vec<u8>], room: &mut [u8], out: &mut [u64; JOIN_NUMBERS]) -> Reply {
     let mut record = Reassembler::CLOSED;
     for piece in pieces {
         record.join(piece, room, out)?;
@@ -47,7 +47,6 @@ pub fn time(lines: &mut Lines) {
         ("join 65,535 bytes, cut for 261", cut(BUFFER_LEN)),
         ("join 65,535 bytes, cut for 100", cut(100)),
     ] {
-        let pieces: Vec<&[u8]> = pieces.iter().map(|piece| &piece[..]).collect();
-        adding::<LEN, JOIN_NUMBERS>(lines, (name, MOST), (&pieces, 1), &[1], joined);
+        adding::<LEN, JOIN_NUMBERS, _>(lines, (name, MOST), (&pieces, 1), &[1], joined);
     }
 }
