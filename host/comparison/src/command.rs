@@ -13,7 +13,7 @@ use self::operations::{data, data_len, own, parse, Room, ROOMS, SHORT_ROOMS};
 use self::parsed::written;
 pub use self::parsed::{by_rust, of_owned};
 use self::standard::CASES;
-pub use self::timed::{adding, time};
+pub use self::timed::time;
 use crate::call::Call;
 use crate::inputs::Inputs;
 use crate::lent::Hex;

@@ -6,11 +6,11 @@
 use std::hint::black_box;
 use std::time::Instant;
 
-use gorvisclen::{Reply, CRATE_READING, OWNED_NUMBERS};
+use gorvisclen::{CRATE_READING, OWNED_NUMBERS};
 use original::command::{Command, CommandView, FromSliceError};
 
 use super::operations::{data, own, parse, Asked};
-use super::parsed::{of_owned, written};
+use super::parsed::{of_owned, refusal, written};
 use crate::call::Call;
 use crate::lent::Hex;
 use crate::timing::{best_of, check, ours, told, Lines, Size, HEADER, NO_LIMIT};
@@ -20,9 +20,6 @@ const MOST: f64 = 1.10;
 
 /// How many pieces a held command is extended by, one after the other.
 const PIECES: usize = 64;
-
-/// How often a round adds pieces.
-const TIMES: usize = 8;
 
 /// Commands that are parsed: the kind, what each is, its bytes.
 fn samples() -> Vec<(&'static str, &'static str, Vec<u8>)> {
@@ -91,64 +88,51 @@ fn copies<const N: usize>(lines: &mut Lines, words: &str) {
     lines.sides((&name, NO_LIMIT), size, (&[asked], &[data(asked)]), copy_data, ours);
 }
 
+/// A command that holds no data.
+fn none_held<const N: usize>() -> Box<Command<N>> {
+    Box::new(Command::try_from(&HEADER).unwrap())
+}
+
 #[inline(never)]
-fn by_rust<const N: usize>(pieces: &[impl AsRef<[u8]>], held: &mut Command<N>) -> u8 {
-    for piece in pieces {
-        let Ok(view) = CommandView::try_from(piece.as_ref()) else {
-            return 5;
-        };
-        if held.extend_from_command_view(view).is_err() {
-            return 18;
-        }
+fn extend<const N: usize>(piece: &[u8], held: &mut Command<N>) -> u8 {
+    match CommandView::try_from(piece) {
+        Ok(view) => held.extend_from_command_view(view).map_or(18, |()| 0),
+        Err(error) => refusal(error),
     }
-    0
 }
 
-/// The nanoseconds of what is done on something new, the best of some times.
-fn nanoseconds<S>(new: impl Fn() -> S, done: impl Fn(&mut S) -> u8) -> f64 {
-    best_of(TIMES, || {
-        let mut on = new();
-        let start = Instant::now();
-        check("pieces", 0, black_box(done(black_box(&mut on))));
-        start.elapsed().as_nanos() as f64
-    })
+fn extended_by_rust<const N: usize>(piece: &[u8], held: &mut Command<N>) -> f64 {
+    let start = Instant::now();
+    for _ in 0..PIECES {
+        black_box(extend(black_box(piece), black_box(held)));
+    }
+    start.elapsed().as_nanos() as f64 / PIECES as f64
 }
 
-/// Times the adding of pieces, as so many calls, in a room of `N` bytes, which they fill. The Rust parses each and extends a command
-/// by it that has no data at first. Ours tells the numbers of the command that comes of it, behind `front`.
-pub fn adding<const N: usize, const TOLD: usize, P: AsRef<[u8]>>(
-    lines: &mut Lines,
-    (name, most): (&str, f64),
-    (pieces, calls): (&[P], usize),
-    front: &[u64],
-    ours: impl Fn(&[P], &mut [u8], &mut [u64; TOLD]) -> Reply,
-) {
-    let none_held = || Box::new(Command::<N>::try_from(&HEADER).unwrap());
-    let lent = || (vec![1; N], [0; TOLD]);
-    let (mut held, (mut room, mut out)) = (none_held(), lent());
-    let replies = (by_rust(pieces, &mut held), told(ours(pieces, &mut room, &mut out)));
-    check(name, (0, 0), replies);
-    check(name, &[front, &of_owned(&held)].concat()[..], &out[..front.len() + OWNED_NUMBERS]);
-    check(name, &held.data()[..], &room[..]);
-    let rust = || nanoseconds(none_held, |held| by_rust(black_box(pieces), held));
-    let ours = || nanoseconds(lent, |(room, out)| told(ours(black_box(pieces), room, out)));
-    lines.time(name, most, || rust() / calls as f64, || ours() / calls as f64);
-}
-
-#[inline(never)]
-fn extended(pieces: &[&[u8]], room: &mut [u8], out: &mut [u64; OWNED_NUMBERS]) -> Reply {
+fn extended_by_ours(piece: &[u8], room: &mut [u8], out: &mut [u64; OWNED_NUMBERS]) -> f64 {
+    let start = Instant::now();
     let mut len = 0;
-    for piece in pieces {
-        gorvisclen::command_extend(len, room, piece, out)?;
+    for _ in 0..PIECES {
+        let (room, out) = (black_box(&mut *room), black_box(&mut *out));
+        let reply = gorvisclen::command_extend(len, room, black_box(piece), out);
+        black_box(told(reply));
         len = out[4] as usize;
     }
-    Ok(())
+    start.elapsed().as_nanos() as f64 / PIECES as f64
 }
 
 /// Times the extending by pieces of `N / PIECES` data bytes.
 fn extending<const N: usize>(lines: &mut Lines, words: &str) {
-    let (name, piece) = (format!("extend by {words}"), apdu(N / PIECES));
-    adding::<N, OWNED_NUMBERS, _>(lines, (&name, NO_LIMIT), (&[&piece[..]; PIECES], PIECES), &[], extended);
+    let name = format!("extend by {words}");
+    let piece = apdu(N / PIECES);
+    let (mut held, mut room, mut out) = (none_held::<N>(), vec![1; N], [7; OWNED_NUMBERS]);
+    extended_by_rust(&piece, &mut held);
+    extended_by_ours(&piece, &mut room, &mut out);
+    check(&name, of_owned(&held), out);
+    check(&name, &held.data()[..], &room[..]);
+    let rust = || best_of(40, || extended_by_rust(&piece, &mut none_held::<N>()));
+    let ours = || best_of(40, || extended_by_ours(&piece, &mut vec![1; N], &mut out.clone()));
+    lines.time(&name, NO_LIMIT, rust, ours);
 }
 
 pub fn time(lines: &mut Lines) {

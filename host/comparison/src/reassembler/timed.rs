@@ -1,17 +1,26 @@
 //! Joining timed: a call joins all pieces of a command of 65,535 bytes in a room. The Rust parses each piece and extends an owned
 //! command by it, which has no data at first; ours is called once for each piece, with the record that it told of the one before.
 
-use gorvisclen::{Reassembler, Reply, BUFFER_LEN, JOIN_NUMBERS};
+use std::hint::black_box;
+use std::time::Instant;
+
+use gorvisclen::{Reassembler, Refused, BUFFER_LEN, JOIN_NUMBERS};
+use original::command::{Command, CommandView};
 
 use super::{lists, model};
-use crate::command::adding;
-use crate::timing::{Lines, HEADER};
+use crate::command::of_owned;
+use crate::timing::{best_of, check, Lines, HEADER};
 
 /// The most that ours may take of the Rust's time.
 const MOST: f64 = 1.20;
 
+/// How many calls a round makes.
+const CALLS: usize = 8;
+
 /// How many data bytes are joined, and the room.
 const LEN: usize = 65_535;
+
+type Held = Command<LEN>;
 
 /// Pieces of 261 bytes each: 255 data bytes, and Le.
 fn longest() -> Vec<Vec<u8>> {
@@ -32,13 +41,46 @@ fn cut(available: usize) -> Vec<Vec<u8>> {
 }
 
 #[inline(never)]
-fn joined(pieces: &[Vec<u8>], room: &mut [u8], out: &mut [u64; JOIN_NUMBERS]) -> Reply {
+fn by_rust(pieces: &[Vec<u8>], held: &mut Held) -> u8 {
+    for piece in pieces {
+        let Ok(view) = CommandView::try_from(&piece[..]) else {
+            return 5;
+        };
+        if held.extend_from_command_view(view).is_err() {
+            return 18;
+        }
+    }
+    0
+}
+
+#[inline(never)]
+fn by_ours(pieces: &[Vec<u8>], room: &mut [u8], out: &mut [u64; JOIN_NUMBERS]) -> u8 {
     let mut record = Reassembler::CLOSED;
     for piece in pieces {
-        record.join(piece, room, out)?;
+        if let Err(Refused(number)) = record.join(piece, room, out) {
+            return number;
+        }
         record = model::rest(*out);
     }
-    Ok(())
+    0
+}
+
+/// An owned command without data.
+fn empty() -> Box<Held> {
+    Box::new(Held::try_from(&HEADER).unwrap())
+}
+
+fn rust(pieces: &[Vec<u8>], held: &mut Held) -> f64 {
+    let start = Instant::now();
+    check("join", 0, black_box(by_rust(black_box(pieces), black_box(held))));
+    start.elapsed().as_nanos() as f64
+}
+
+fn ours(pieces: &[Vec<u8>], room: &mut [u8], out: &mut [u64; JOIN_NUMBERS]) -> f64 {
+    let start = Instant::now();
+    let (room, out) = (black_box(room), black_box(out));
+    check("join", 0, black_box(by_ours(black_box(pieces), room, out)));
+    start.elapsed().as_nanos() as f64
 }
 
 pub fn time(lines: &mut Lines) {
@@ -47,6 +89,13 @@ pub fn time(lines: &mut Lines) {
         ("join 65,535 bytes, cut for 261", cut(BUFFER_LEN)),
         ("join 65,535 bytes, cut for 100", cut(100)),
     ] {
-        adding::<LEN, JOIN_NUMBERS, _>(lines, (name, MOST), (&pieces, 1), &[1], joined);
+        let (mut held, mut room, mut out) = (empty(), vec![1; LEN], [7; JOIN_NUMBERS]);
+        rust(&pieces, &mut held);
+        ours(&pieces, &mut room, &mut out);
+        check(name, (1, &of_owned(&held)[..]), (out[0], &out[1..8]));
+        check(name, &held.data()[..], &room[..]);
+        let rust = || best_of(CALLS, || rust(&pieces, &mut empty()));
+        let ours = || best_of(CALLS, || ours(&pieces, &mut vec![1; LEN], &mut [0; JOIN_NUMBERS]));
+        lines.time(name, MOST, rust, ours);
     }
 }
