@@ -17,6 +17,7 @@
 extern crate original as opened;
 
 mod aid;
+mod answer;
 #[cfg(feature = "counted")]
 mod branches;
 mod builder;

@@ -5,7 +5,7 @@ use std::array;
 use std::collections::BTreeMap;
 use std::ops::Range;
 
-use crate::call::{leave, Answer};
+use crate::answer::{leave, Answer};
 
 /// What the inputs start from.
 pub const SEED: u64 = 7816;

@@ -11,7 +11,8 @@ use std::time::Instant;
 
 use gorvisclen::{Refused, Reply};
 
-use crate::call::{leave, Call};
+use crate::answer::leave;
+use crate::call::Call;
 
 const ROUNDS: usize = 400;
 

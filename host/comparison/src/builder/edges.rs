@@ -5,7 +5,8 @@ use gorvisclen::EXPECTED_MAX;
 use super::asked::Asked;
 use super::fields::MODES;
 use super::operations::{equals, write};
-use crate::call::{Call, Left};
+use crate::answer::Left;
+use crate::call::Call;
 use crate::loops::pairs;
 use crate::tally::Tally;
 

@@ -4,7 +4,8 @@ use gorvisclen::{COMMAND_NUMBERS, CRATE_READING, EXTENDED_FORCED, SHORT_ONLY, ST
 use opened::command::CommandView;
 
 use super::asked::Asked;
-use crate::call::{call, Call, Left};
+use crate::answer::Left;
+use crate::call::{call, Call};
 use crate::command::by_rust;
 use crate::lent::Hex;
 use crate::panics::unless_it_panics;

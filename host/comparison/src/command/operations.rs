@@ -5,7 +5,8 @@ use original::command::{Command, CommandView};
 
 use super::parsed::{by_rust, of_owned, refusal, Parsed};
 use super::standard::{by_table, NO_CASE, STANDARD_DATA, STANDARD_OWNED};
-use crate::call::{call, Answer, Call, Left};
+use crate::answer::{Answer, Left};
+use crate::call::{call, Call};
 use crate::lent::{bytes, Hex};
 use crate::record::Operation;
 use crate::tally::{Names, Tally};

@@ -7,7 +7,7 @@ use original::command::{Command, CommandView, FromSliceError};
 use super::model::{told, BIT};
 use super::pieces::{around, some_header, some_piece};
 use super::steps::Chain;
-use crate::call::Left;
+use crate::answer::Left;
 use crate::command::{of_owned, rooms};
 use crate::inputs::Inputs;
 use crate::lent::Hex;

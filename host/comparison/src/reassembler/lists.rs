@@ -6,7 +6,8 @@ use gorvisclen::{Pieces, Reassembler, BUFFER_LEN, JOIN_NUMBERS, PIECE_NUMBERS};
 use super::model::{self, told, BIT};
 use super::pieces::{around, some_header, some_piece};
 use super::steps::{data, Chain};
-use crate::call::{Call, Left};
+use crate::answer::Left;
+use crate::call::Call;
 use crate::inputs::Inputs;
 use crate::tally::{Names, Tally};
 

@@ -2,7 +2,7 @@
 
 use gorvisclen::{Reassembler, JOIN_NUMBERS, OWNED_NUMBERS};
 
-use crate::call::{Answer, Left};
+use crate::answer::{Answer, Left};
 use crate::command::by_rust;
 
 /// The class bit of a piece that is not the last.

@@ -3,7 +3,8 @@
 use gorvisclen::{Reassembler, Refused, JOIN_NUMBERS};
 
 use super::model;
-use crate::call::{call, Answer, Call, Given};
+use crate::answer::Answer;
+use crate::call::{call, Call, Given};
 use crate::lent::{bytes, Hex, Lent};
 use crate::tally::{Names, Tally};
 

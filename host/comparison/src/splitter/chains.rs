@@ -6,8 +6,9 @@ use gorvisclen::{Pieces, BUFFER_LEN, PIECE_NUMBERS, SHORT_ONLY};
 use opened::command::class::Class;
 use opened::command::{self, ChainedCommandIterator, CommandBuilder};
 
+use crate::answer::Left;
 use crate::builder::{self, bytes_of, expected, unless_too_long};
-use crate::call::{call, Call, Given, Left};
+use crate::call::{call, Call, Given};
 use crate::lent::{bytes, Hex};
 use crate::record::{Handed, Operation};
 use crate::tally::Tally;

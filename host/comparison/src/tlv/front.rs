@@ -9,7 +9,8 @@ use original::tlv::{self, take_data_object, take_len, take_tag};
 
 use super::model;
 use super::names::{self, Names};
-use crate::call::{call, leave, Call, Left};
+use crate::answer::{leave, Left};
+use crate::call::{call, Call};
 use crate::lent::{self, numbers, Hex, Lent, Outcome};
 use crate::record::Operation;
 use crate::tally::Tally;
