@@ -1,5 +1,5 @@
-# Reads must-fail edits. A block, which an empty line ends, is one wrong program: its name, once for each place that must refuse it,
-# and the replacements that make it.
+# Reads must-fail edits. A block is one wrong program, and ends at an empty line. It has the name of the program, once
+# for each place that must refuse it, and the replacements that make the program.
 #   # NAME: PLACE
 #   file: FILE
 #   old: TEXT
@@ -32,7 +32,7 @@ function take_file() {
 function take_name() {
     comments++
     if ($0 !~ form) fault(FNR, "no `# NAME: PLACE`: " $0)
-    else if (files) fault(FNR, "a name behind a `file:` line, where an empty line must end the block: " $0)
+    else if (files) fault(FNR, "a name after a `file:` line, where an empty line must end the block: " $0)
     else {
         name[++names] = substr($2, 1, length($2) - 1)
         place[names] = substr($0, length($2) + 4)
@@ -42,7 +42,7 @@ function take_name() {
 function end_block(    i) {
     if (files && !comments) fault(start, "a block without a name")
     for (i = 1; i <= names; i++) {
-        if (!files) fault(start, "no `file:` line behind the name " name[i])
+        if (!files) fault(start, "no `file:` line after the name " name[i])
         print "program", edit, name[i], place[i], kind
     }
     start = comments = names = files = 0

@@ -1,12 +1,13 @@
-# Prints of what kinds the errors are that stand at a place in the log of a must-fail edit: "a fact" where one of them is, otherwise the
-# other kinds with their counts, or nothing. .ci/refused says what the kinds are.
-#   awk -v place=PLACE -f errors.awk LOG     PLACE is `fn CRATE::PATH`, or the end of a file's path: CRATE/EDIT/proofs/PATH.antt, and behind
-#                                            a blank the name of a definition in it where only its errors count
+# Prints the kinds of the errors at a place in the log of a must-fail edit: "a fact" if one of them is a fact,
+# otherwise the other kinds with their counts, or nothing. .ci/refused says what the kinds are.
+#   awk -v place=PLACE -f errors.awk LOG
+# PLACE is `fn CRATE::PATH`, or the end of the path of a file: CRATE/EDIT/proofs/PATH.antt. After a blank it may have
+# the name of a definition in the file; then only errors in it count.
 BEGIN {
     in_file = place !~ /^fn /
     if (in_file && split(place, parts, " ") == 2) { place = parts[1]; named = "`" parts[2] "`: " }
 }
-# an error's text goes on in the lines behind it that are set in
+# the text of an error goes on in the indented lines after it
 /^  / { sub(/^ +/, " "); text = text $0; next }
 { judge(); text = $0 }
 END { judge(); report() }
@@ -26,7 +27,7 @@ function report(    i, all) {
     else if (all != "") print all
 }
 
-# Of the line that says of a function that it has no proof; the prover searches for one where no file has it.
+# The kind of a line that says that a function has no proof. The prover searches for one if there is no proof file.
 function kind_of_search(t) {
     if (t ~ /: not proved/) return "a proof file of its own"
     if (!match(t, /does not close [^;]*/)) return "another's proof"
@@ -52,7 +53,7 @@ function kind(t) {
 function literal(t,    wanted, given, computed) {
     wanted = quoted(t, "expected type `")
     given = quoted(t, "but this has type `")
-    computed = behind(t, "computed as far as they go, the two types ")
+    computed = after(t, "computed as far as they go, the two types ")
     if (but_for_numerals(wanted, given)) return 1
     if (but_for_numerals(quoted(computed, "are `"), quoted(computed, "(expected) and `"))) return 1
     if (!bound(wanted) || !bound(given)) return 0
@@ -79,12 +80,12 @@ function without_numerals(t,    n, i, word, all) {
     return all
 }
 
-# The order that is written in front of its two sides, and those sides where they are numerals.
+# The order that is written before its two sides; and those sides, if they are numerals.
 function order(t) { return match(t, /^(Prim[.]Native[.]Nat[.])?_(≤|<)_ /) ? substr(t, 1, RLENGTH) : "" }
 function left(t) { t = substr(t, length(order(t)) + 1); return match(t, /^[0-9]+ /) ? substr(t, 1, RLENGTH - 1) : "" }
 function right(t) { return match(t, / [0-9]+$/) ? substr(t, RSTART + 1) : "" }
 function apart(n, m) { return n != "" && m != "" && n != m }
 
-# What stands behind some words of a text, and of that what stands before the next backtick.
-function behind(t, words) { return index(t, words) ? substr(t, index(t, words) + length(words)) : "" }
-function quoted(t, words) { t = behind(t, words); return substr(t, 1, index(t, "`") - 1) }
+# The text after some words; and of that the text before the next backtick.
+function after(t, words) { return index(t, words) ? substr(t, index(t, words) + length(words)) : "" }
+function quoted(t, words) { t = after(t, words); return substr(t, 1, index(t, "`") - 1) }

@@ -1,8 +1,9 @@
-# Reads the sources of a crate and prints a line for each public function, its fields parted by tabs:
+# Reads the sources of a crate and prints a line for each public function, with tabs between its fields:
 #   function  CRATE::TYPE::NAME  FILE:LINE  yes or no: it has a requires  the text of its ensures
-# TYPE stands only for a function in an `impl`; modules are left out.
+# TYPE is given only for a function in an `impl`; modules are left out.
 #   awk -v crate=CRATE -f functions.awk FILE..
-# In a function: "name" until its name came, "head" up to its body, "clause" within the braces of a clause.
+# `part` says what is being read of a function: "name" up to its name, "head" up to its body, "clause" inside a
+# clause.
 FNR == 1 { depth = 0; type[0] = ""; part = ""; visible = 0 }
 {
     rest = $0
@@ -35,7 +36,7 @@ function take(t) {
     } else if (t == "impl") { part = "impl"; of = "" }
     else if (t == "{") { depth++; type[depth] = type[depth - 1] }
     else if (t == "}") depth--
-    # "pub" counts up to "fn" past the words that may stand between them; "pub(crate)" does not count.
+    # "pub" counts up to "fn", also if certain words are between them; "pub(crate)" does not count.
     visible = (t == "pub" || visible && t ~ /^(const|unsafe|extern|"C")$/)
 }
 

@@ -1,4 +1,5 @@
-# Holds docs/PROMISES.md and docs/EXCEPTIONS.md to what the crates have. .ci/promises says to what, and .ci/facts what its lines are.
+# Checks docs/PROMISES.md and docs/EXCEPTIONS.md against what the crates have. .ci/promises says what is checked, and
+# .ci/facts what the lines of its input are.
 #   awk -f page.awk what=facts FACTS what=exceptions docs/EXCEPTIONS.md what=promises docs/PROMISES.md
 what == "facts" { split($0, field, "\t"); take_fact(); next }
 what == "exceptions" { for (i = ticked($0); i > 0; i--) excepted[names[i]] = 1; next }
@@ -51,7 +52,7 @@ function other_line(at) {
     if (!edits_of_code(at, "", line) && line ~ /^\|/) say(at ": a row that names no edit of code")
 }
 
-# Looks for each definition of the cell; the first of them, which is the promise.
+# Looks for each definition of the cell. Returns the first one, which is the promise.
 function check_definitions(name, crate, cell,    i, n) {
     n = ticked(cell)
     if (!n && !(name in excepted)) say(name ": its row names no definition")
@@ -66,13 +67,14 @@ function check_theorems(name, crate, cell, promise,    i, n, theorem) {
     if (!n && !(name in excepted)) say(name ": its row names no theorem")
     for (i = 1; i <= n; i++) {
         theorem = crate "/" names[i]
-        if (!(theorem in type)) say(name ": no theorem " names[i] " in crates/" crate "/proofs/Single.antt")
+        if (!(theorem in type)) say(name ": no theorem " names[i] " in crates/" crate "/proofs/OneReply.antt")
         else if (promise != "" && !has_word(type[theorem], promise))
             say(name ": the type of the theorem " names[i] " does not name " promise ", the first definition of its row")
     }
 }
 
-# Looks for each edit of the cell and at its mark; how many are of code. The crate is that of the edits that name none.
+# Looks for each edit of the cell, and at its mark. Returns how many are of code. An edit without a crate is of this
+# one.
 function edits_of_code(name, crate, cell,    i, n, edit, kind, code, seen) {
     n = ticked(cell)
     for (i = 1; i <= n; i++) {
@@ -98,7 +100,8 @@ function check_comparison(name, cell,    file, line, got) {
 # Whether a text names an edit as crate/edit.
 function names_edits(text) { return text ~ /`[a-z0-9_]+\/[a-z0-9_]+`/ }
 
-# The names in backticks of a text, without their modules, into names[1..], and which of them are marked; their count.
+# Puts the names in backticks of a text, without their modules, into names[1..], and whether each is marked into
+# marked[]. Returns their count.
 function ticked(text,    n) {
     n = 0
     while (match(text, /`[^`]+`/)) {
@@ -110,7 +113,7 @@ function ticked(text,    n) {
     return n
 }
 
-# Whether a text has the name as a word, perhaps behind its module.
+# Whether a text has the name as a word, perhaps after its module.
 function has_word(text, name,    n, i, word) {
     gsub(/[][(){},;]|⌜|⌝/, " ", text)
     n = split(text, word, " ")

@@ -1,5 +1,5 @@
-# Reads a file of proofs and prints a line for each declaration, its fields parted by tabs:
-#   theorem  CRATE/NAME  its type, behind the section (`module _ (x : A) where`) that it stands in
+# Reads a file of proofs and prints a line for each declaration, with tabs between its fields:
+#   theorem  CRATE/NAME  its type, after the section (`module _ (x : A) where`) that it is in
 #   awk -v crate=CRATE -f theorems.awk FILE
 # A type ends at an empty line, or at the line that begins with the name again.
 /^ *--/ { next }

@@ -1,15 +1,16 @@
-//! Links every archive `libexports*.a` of the folder that GORVISCLEN_LIB names, or else of the repository's target/staticlib.
-//! Each is linked whole, so that a function that two of them have, as where an old one was left behind, is an error.
+//! Links the archives of the exported functions: each `lib*_abi.a` of the folder that GORVISCLEN_LIB names, or else of
+//! target/staticlib. Each archive is linked as a whole. So a function that two archives define is an error, and is not
+//! taken from one of them.
 
 use std::path::{Path, PathBuf};
 use std::{env, fs, process};
 
-fn fail(said: String) -> ! {
-    eprintln!("{said}");
+fn fail(message: String) -> ! {
+    eprintln!("{message}");
     process::exit(1);
 }
 
-/// The names that the archives of the folder are linked by, in order: `exports_class` of libexports_class.a.
+/// The names of the archives in a folder, sorted: `class_abi` for libclass_abi.a.
 fn archives(folder: &Path) -> Vec<String> {
     let entries = fs::read_dir(folder).unwrap_or_else(|error| {
         fail(format!("{}: {error}: host/archives writes the archives there", folder.display()))
@@ -17,7 +18,7 @@ fn archives(folder: &Path) -> Vec<String> {
     let mut names: Vec<String> = entries
         .filter_map(|entry| entry.ok()?.file_name().into_string().ok())
         .filter_map(|file| Some(file.strip_prefix("lib")?.strip_suffix(".a")?.to_string()))
-        .filter(|name| name.starts_with("exports"))
+        .filter(|name| name.ends_with("_abi"))
         .collect();
     names.sort();
     names
@@ -29,11 +30,11 @@ fn main() {
         Some(folder) => PathBuf::from(folder),
         None => PathBuf::from(env::var_os("CARGO_MANIFEST_DIR").unwrap()).join("../../target/staticlib"),
     };
-    // The folder stands for all that is in it: an archive that comes, goes or changes is seen.
+    // Cargo watches the whole folder: an archive that is added, removed or changed is linked again.
     println!("cargo:rerun-if-changed={}", folder.display());
     let archives = archives(&folder);
     if archives.is_empty() {
-        fail(format!("no libexports*.a in {}: host/archives writes them", folder.display()));
+        fail(format!("no lib*_abi.a in {}: host/archives writes them", folder.display()));
     }
     println!("cargo:rustc-link-search=native={}", folder.display());
     for name in archives {

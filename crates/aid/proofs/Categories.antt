@@ -1,4 +1,4 @@
--- The category of a name, by the high half of its first byte. Assumes nothing.
+-- The category of a name, by the high half of its first byte (rule 9.3).
 use Prim.Native.Nat.{ℕ, _/_}
 use mathlib.Core.Path.{_≡_, ap, _∙_}
 use mathlib.Core.Bool.{Bool}
@@ -28,7 +28,7 @@ module _ (b : ℕ) where
   unfolding categoryOf
   is-other i n s p = rw (ne-eqb (b / 16) 0xA i, ne-eqb (b / 16) 0xD n, ne-eqb (b / 16) 0xE s, ne-eqb (b / 16) 0xF p)
 
--- a test for a category, by the numbers compared, and of an equal number
+-- a test for a category compares two numbers; it is the same test for an equal number
 pub by-number : (a : Aid) (k n m : ℕ) → n ≡ category a → m ≡ k → is-in-is k a (eqb n m)
 by-number a k n m e f = rw (e, f)
 

@@ -1,9 +1,10 @@
-// The category of an AID, by the high half of its first byte.
+// The category of an AID (rule 9.3).
+// Ported, with changes, from src/aid.rs of the crate iso7816 0.2.2 (see NOTICE).
 ghost use mathlib.Core.Path.{_≡_};
-ghost use Rattle.aid.specs.Category.{international, national, standard, proprietary, categoryOf, saidCategory, category-is, is-in-is};
+ghost use Rattle.aid.specs.Category.{international, national, standard, proprietary, categoryOf, categoryAsNumber, category-is, is-in-is};
 use crate::Aid;
 
-// The category of an AID, by the high half of its first byte.
+// The category of an AID: the high half of its first byte says it.
 pub enum Category {
     International,
     National,
@@ -12,9 +13,9 @@ pub enum Category {
     Other,
 }
 
-// Of a name that starts with this byte.
+// The category of a name that starts with this byte (rule 9.3).
 pub(crate) fn of(first: u8) -> Category
-    ensures { λ r. ⌜ saidCategory r ≡ categoryOf first ⌝ }
+    ensures { λ r. ⌜ categoryAsNumber r ≡ categoryOf first ⌝ }
 {
     let high = first / 16;
     match high {
@@ -26,9 +27,9 @@ pub(crate) fn of(first: u8) -> Category
     }
 }
 
-// The categories by number, to compare two.
+// The number of a category, to compare two of them.
 fn number(k: Category) -> u8
-    ensures { λ r. ⌜ r ≡ saidCategory k ⌝ }
+    ensures { λ r. ⌜ r ≡ categoryAsNumber k ⌝ }
 {
     match k {
         Category::International => 0,
@@ -48,14 +49,14 @@ impl Aid {
         of(bytes[0])
     }
 
-    // Whether this is its category.
+    // Whether an AID is of this category.
     fn is_in(self, k: Category) -> bool
-        ensures { λ r. ⌜ is-in-is (saidCategory k) self r ⌝ }
+        ensures { λ r. ⌜ is-in-is (categoryAsNumber k) self r ⌝ }
     {
         number(self.category()) == number(k)
     }
 
-    // One test for each category but the last.
+    // One test for each category but `Other`.
     pub fn is_international(self) -> bool
         ensures { λ r. ⌜ is-in-is international self r ⌝ }
     {

@@ -1,6 +1,7 @@
 // Application identifiers (AIDs): making one, its category, its parts, and matching a name.
+// Ported, with changes, from src/aid.rs of the crate iso7816 0.2.2 (see NOTICE).
 ghost use mathlib.Core.Path.{_≡_};
-ghost use Rattle.aid.specs.Making.{tested, underFive, said, try-new-is, try-new-truncatable-is};
+ghost use Rattle.aid.specs.Making.{tested, underFive, asReply, try-new-is, try-new-truncatable-is};
 
 mod category;
 mod matches;
@@ -11,7 +12,7 @@ pub use part::Copied;
 pub use part::Length;
 pub use part::Part;
 
-// An AID: its bytes with zeros behind them, how many they are, and the length to which a name may be truncated.
+// An AID: its bytes with zeros after them, how many they are, and the length to which a name may be truncated.
 // Only `try_new` and `try_new_truncatable` make one.
 pub struct Aid {
     bytes: [u8; 16],
@@ -19,27 +20,28 @@ pub struct Aid {
     truncated: usize,
 }
 
-// Made, or refused with 6 to 10.
+// The AID was made, or it was refused with 6 to 10.
 pub enum Answer {
     Made,
     Refused(u8),
 }
 
-// The answer, and the AID; with a refusal the AID is that of the one byte 00.
+// The answer, and the AID. With a refusal the AID is that of the one byte 00.
 pub struct TryNew {
     pub answer: Answer,
     pub aid: Aid,
 }
 
+// The AID of the one byte 00, which is returned with a refusal.
 const BLANK: Aid = Aid {
     bytes: [0; 16],
     len: 1,
     truncated: 1,
 };
 
-// Whether a name of under five bytes may be an AID, by its first byte.
+// Whether a name of under five bytes may be an AID, by its first byte (rules 1.9 and 1.10).
 fn under_five(first: u8) -> Answer
-    ensures { λ r. ⌜ said r ≡ underFive first ⌝ }
+    ensures { λ r. ⌜ asReply r ≡ underFive first ⌝ }
 {
     match category::of(first) {
         Category::National => Answer::Refused(9),
@@ -50,9 +52,9 @@ fn under_five(first: u8) -> Answer
     }
 }
 
-// Whether a name may be an AID with a truncated length.
-fn test(aid: &[u8], truncated_len: usize) -> Answer
-    ensures { λ r. ⌜ said r ≡ tested (now (aid .entry)) «truncated_len» ⌝ }
+// Whether a name may be an AID with this truncated length (rule 9.1).
+fn test_name(aid: &[u8], truncated_len: usize) -> Answer
+    ensures { λ r. ⌜ asReply r ≡ tested (now (aid .entry)) «truncated_len» ⌝ }
 {
     let n = aid.len();
     if n == 0 {
@@ -71,7 +73,7 @@ fn test(aid: &[u8], truncated_len: usize) -> Answer
 }
 
 impl Aid {
-    // The AID of a name that is not to be truncated.
+    // The AID of a name without a truncated length: it has its own length for it (rule 9.2).
     pub fn try_new(aid: &[u8]) -> TryNew
         ensures { λ r. ⌜ try-new-is (now (aid .entry)) r ⌝ }
     {
@@ -79,11 +81,11 @@ impl Aid {
         Aid::try_new_truncatable(aid, n)
     }
 
-    // The AID of a name that may be truncated to a length.
+    // The AID of a name that may be truncated to a length (rule 9.1).
     pub fn try_new_truncatable(aid: &[u8], truncated_len: usize) -> TryNew
         ensures { λ r. ⌜ try-new-truncatable-is (now (aid .entry)) «truncated_len» r ⌝ }
     {
-        match test(aid, truncated_len) {
+        match test_name(aid, truncated_len) {
             Answer::Refused(k) => TryNew {
                 answer: Answer::Refused(k),
                 aid: BLANK,

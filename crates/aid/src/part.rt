@@ -1,11 +1,13 @@
-// The parts of an AID: all its bytes, its truncated part, its RID and its PIX, as lengths and copies.
+// The parts of an AID, as lengths and copies (rule 9.4).
+// Ported, with changes, from src/aid.rs of the crate iso7816 0.2.2 (see NOTICE).
 ghost use mathlib.Core.Path.{_≡_};
 ghost use Prim.Native.Nat.{min};
-ghost use Rattle.aid.specs.Part.{hasRid, Spans, part-len-is, copy-part-is};
+ghost use Rattle.aid.specs.Parts.{hasRid, SpanFor, part-len-is, copy-part-is};
 use crate::Aid;
 use crate::Category;
 
-// The parts of an AID: all its bytes, the truncated ones, the registered provider (RID), and what follows it (PIX).
+// The parts of an AID: all its bytes, the truncated part, the registered application provider (RID), and what follows
+// it (PIX).
 pub enum Part {
     Bytes,
     Truncated,
@@ -13,33 +15,33 @@ pub enum Part {
     Pix,
 }
 
-// How many bytes a part has, or that there is no such part.
+// How many bytes a part has; `None` if there is no such part.
 pub enum Length {
     Bytes(usize),
     None,
 }
 
-// How many bytes were copied; that there is no such part; 16 where it is longer than the buffer.
+// How many bytes were copied; `None` if there is no such part; 16 if it is longer than the buffer.
 pub enum Copied {
     Bytes(usize),
     None,
     Refused(u8),
 }
 
-// Where a part starts and ends among the bytes.
+// Where a part starts and ends among the 16 bytes.
 enum Span {
     Of(usize, usize),
     None,
 }
 
-// A length, at most the 16 bytes there are.
+// A length, but at most the 16 bytes that there are.
 pub(crate) fn up_to_16(n: usize) -> usize
     ensures { λ r. ⌜ r ≡ min n 16 ⌝ }
 {
     if n <= 16 { n } else { 16 }
 }
 
-// Whether an AID starts with a RID: national or international, and at least five bytes.
+// Whether an AID has a RID and a PIX: it is national or international, and has at least five bytes (rule 9.4).
 fn has_rid(aid: Aid) -> bool
     ensures { λ r. ⌜ r ≡ hasRid aid ⌝ }
 {
@@ -53,8 +55,9 @@ fn has_rid(aid: Aid) -> bool
     }
 }
 
+// Where a part stands.
 fn span_of(aid: Aid, part: Part) -> Span
-    ensures { λ r. ⌜ Spans part aid r ⌝ }
+    ensures { λ r. ⌜ SpanFor part aid r ⌝ }
 {
     let end = up_to_16(aid.len);
     match part {
@@ -88,7 +91,7 @@ impl Aid {
         }
     }
 
-    // Copies a part to the front of a lent buffer.
+    // Copies a part to the front of a lent buffer (rule 9.4).
     pub fn copy_part(self, part: Part, to: &mut [u8]) -> Copied
         ensures { λ r. ⌜ copy-part-is part self (now (to .entry)) r (now (to .exit)) ⌝ }
     {

@@ -1,4 +1,4 @@
--- The cases of a command by ISO/IEC 7816-3:2006 12.1.3, and which of them is used: document 01, "Building and cutting".
+-- The cases of a command by ISO/IEC 7816-3:2006 12.1.3, and which of them is used. Rules 3.4 to 3.8.
 use Prim.Native.Nat.{ℕ, zero, suc}
 use mathlib.Core.Bool.{cond}
 use mathlib.Core.List.{List, _∷_, _++_}
@@ -18,7 +18,7 @@ pub data Case : Type 0 where
   case3E : Case
   case4E : Case
 
--- the bytes of a case, for a header h, data d and an Le of e; 256 in one byte, and 65,536 in two, are zeros
+-- the bytes of a case, for a header h, data d and an Le of e; 256 in one byte, and 65,536 in two, are zeros (rule 3.8)
 abbrev pub caseBytes : Case → List ℕ → List ℕ → ℕ → List ℕ
 caseBytes case1 h d e = h
 caseBytes case2S h d e = h ++ be 1 e
@@ -28,7 +28,7 @@ caseBytes case2E h d e = h ++ (0 ∷ be 2 e)
 caseBytes case3E h d e = h ++ (0 ∷ be 2 (length d) ++ d)
 caseBytes case4E h d e = h ++ (0 ∷ be 2 (length d) ++ (d ++ be 2 e))
 
--- how many bytes of them are Lc, and Le
+-- how many of them are Lc (rules 3.4 and 3.5)
 abbrev pub lcBytes : Case → ℕ
 lcBytes case1 = 0
 lcBytes case2S = 0
@@ -38,6 +38,7 @@ lcBytes case2E = 0
 lcBytes case3E = 3
 lcBytes case4E = 3
 
+-- how many of them are Le (rules 3.6 and 3.7)
 abbrev pub leBytes : Case → ℕ
 leBytes case1 = 0
 leBytes case2S = 1
@@ -47,27 +48,29 @@ leBytes case2E = 3
 leBytes case3E = 0
 leBytes case4E = 2
 
--- the first, or the second when extended is forced
+-- the first case, or the second when extended is forced
 abbrev pub unlessForced : ExtendedLen → Case → Case → Case
 unlessForced Unsupported x y = x
 unlessForced Supported x y = x
 unlessForced Forced x y = y
 
--- without data Le takes one byte up to 256, or three when above or forced; Le 0 is omitted
+-- without data: Le takes one byte up to 256, three when it is above or extended is forced; Le 0 is omitted (rule 3.7)
 abbrev pub withoutData : ExtendedLen → ℕ → Case
 withoutData m zero = case1
 withoutData m (suc e) = unlessForced m (cond (leb (suc e) 256) case2S case2E) case2E
 
--- after a one-byte Lc Le takes one byte, after an extended Lc two; Le 0 is omitted
+-- after an Lc of one byte: Le takes one byte; Le 0 is omitted (rule 3.6)
 abbrev pub afterShort : ℕ → Case
 afterShort zero = case3S
 afterShort (suc e) = case4S
 
+-- after an extended Lc: Le takes two bytes; Le 0 is omitted (rule 3.6)
 abbrev pub afterExtended : ℕ → Case
 afterExtended zero = case3E
 afterExtended (suc e) = case4E
 
--- extended Lc is used for data from 256, or for any data when Le exceeds 256 or extended is forced; other data take a one-byte Lc
+-- with data: Lc is extended for data from 256 bytes, and for any data when Le exceeds 256 or extended is forced (rule
+-- 3.4); other data take an Lc of one byte (rule 3.5)
 abbrev pub withData : ExtendedLen → ℕ → ℕ → Case
 withData m n e =
     cond (leb 256 n) (afterExtended e)

@@ -1,32 +1,32 @@
-// Commands built: a builder by value, the length that its command takes, its bytes, and its comparison with a command read.
+// Building a command: a builder by value, made (rule 3.2) and forced to extended lengths. sizes.rt says how many bytes
+// its command takes, write.rt writes it.
+// Ported, with changes, from src/command.rs of the crate iso7816 0.2.2 (see NOTICE).
 ghost use mathlib.Core.Path.{_≡_};
-ghost use Rattle.basis.specs.Reply.{is};
-ghost use Rattle.builder.specs.Builder.{inMode, said, new-is, force-extended-is};
+ghost use Rattle.basis.specs.Reply.{ok};
+ghost use Rattle.builder.specs.Builder.{inMode, asReply, new-is, force-extended-is};
 ghost use Rattle.builder.specs.declared.ExtendedLen.the-variants.{Forced};
 
-mod compare;
 mod sizes;
 mod write;
 
 use class::Class;
 use class::FromByte;
-pub use compare::Comparison;
 pub use sizes::Length;
 
-// How many bytes are expected in return: a number, or the most there can be.
+// The expected length: how many bytes are expected in return, a number or the most there can be (rule 3.1).
 pub enum ExpectedLen {
     Ne(u16),
     Max,
 }
 
-// The mode: short lengths only, extended ones where they are needed, or extended ones always.
+// The mode: short lengths only, extended ones if they are needed, or extended ones always (rule 3.1).
 pub enum ExtendedLen {
     Unsupported,
     Supported,
     Forced,
 }
 
-// A command without its data, which are handed to each operation.
+// A command without its data, which each function takes as plain bytes (rule 12.4).
 pub struct CommandBuilder {
     pub class: Class,
     pub instruction: u8,
@@ -36,15 +36,16 @@ pub struct CommandBuilder {
     pub mode: ExtendedLen,
 }
 
-// A builder; a class byte 0xFF (3), data above 65,535 bytes (13), or extended lengths forced where they are unsupported (15).
+// A builder, or the refusal: 3 for the class byte 0xFF, 13 for data above 65,535 bytes, 15 for extended lengths that
+// are forced but unsupported (rules 1.3, 1.13 and 1.15).
 pub enum Built {
     Builder(CommandBuilder),
     Refused(u8),
 }
 
-// The builder in the mode forced.
+// The builder with its mode set to forced, and nothing else changed (rule 3.2).
 fn forced(builder: CommandBuilder) -> Built
-    ensures { λ r. ⌜ said r ≡ is (inMode builder Forced) ⌝ }
+    ensures { λ r. ⌜ asReply r ≡ ok (inMode builder Forced) ⌝ }
 {
     let class = builder.class;
     let le = builder.le;
@@ -60,7 +61,7 @@ fn forced(builder: CommandBuilder) -> Built
 }
 
 impl CommandBuilder {
-    // Makes a builder. The data are only measured: each operation is handed them again.
+    // Makes a builder: the class byte is tested first, then the length of the data, which are not kept (rule 3.2).
     pub fn new(
         class: u8,
         instruction: u8,
@@ -90,7 +91,7 @@ impl CommandBuilder {
         }
     }
 
-    // The builder with extended lengths always.
+    // The builder with extended lengths always; 15 if it is short only (rule 3.2).
     pub fn force_extended(self) -> Built
         ensures { λ r. ⌜ force-extended-is self r ⌝ }
     {

@@ -1,28 +1,29 @@
-// How many bytes the lengths of a command take, and the command with them.
+// How many bytes Lc and Le take, and the command with them. Rules 3.3 to 3.7.
+// Ported, with changes, from src/command.rs of the crate iso7816 0.2.2 (see NOTICE).
 ghost use mathlib.Core.Path.{_≡_};
-ghost use Rattle.builder.specs.Bytes.{asked, loweredLen, lowered-is, required-len-is};
-ghost use Rattle.builder.specs.Sizes.{isForced, wide, lcSize, leSize, fieldsOf};
+ghost use Rattle.builder.specs.Bytes.{leNumber, loweredLen, lowered-is, required-len-is};
+ghost use Rattle.builder.specs.Sizes.{isForced, extended, lcSize, leSize, fieldsOf};
 ghost use Rattle.builder.specs.declared.ExtendedLen.the-variants.{Unsupported};
 use crate::CommandBuilder;
 use crate::ExpectedLen;
 use crate::ExtendedLen;
 
-// A number of bytes; data above 65,535 bytes (13), or a buffer too short from the place (16).
+// A number of bytes, or the refusal: 13 for data above 65,535 bytes, 16 for a buffer that is too short from the place.
 pub enum Length {
     Bytes(usize),
     Refused(u8),
 }
 
-// The bytes of Lc and Le, and the number that Le shows.
+// How many bytes Lc and Le take, and the number that is written as Le.
 pub struct Fields {
     pub lc: usize,
     pub le: usize,
-    pub shown: usize,
+    pub written: usize,
 }
 
 // The expected length as a number, Max as 65,536.
-fn asked(le: ExpectedLen) -> usize
-    ensures { λ r. ⌜ r ≡ asked le ⌝ }
+fn le_number(le: ExpectedLen) -> usize
+    ensures { λ r. ⌜ r ≡ leNumber le ⌝ }
 {
     match le {
         ExpectedLen::Ne(n) => n as usize,
@@ -30,6 +31,7 @@ fn asked(le: ExpectedLen) -> usize
     }
 }
 
+// An expected length lowered to at most 256; Max too (rule 3.3).
 fn at_most_256(le: ExpectedLen) -> ExpectedLen
     ensures { λ r. ⌜ r ≡ loweredLen Unsupported le ⌝ }
 {
@@ -44,7 +46,7 @@ fn at_most_256(le: ExpectedLen) -> ExpectedLen
     }
 }
 
-// The expected length that is written: at most 256 in short mode.
+// The expected length that is written: short only lowers it to at most 256, other modes leave it (rule 3.3).
 fn lowered_len(mode: ExtendedLen, le: ExpectedLen) -> ExpectedLen
     ensures { λ r. ⌜ r ≡ loweredLen mode le ⌝ }
 {
@@ -55,6 +57,7 @@ fn lowered_len(mode: ExtendedLen, le: ExpectedLen) -> ExpectedLen
     }
 }
 
+// Whether extended lengths are forced.
 fn is_forced(mode: ExtendedLen) -> bool
     ensures { λ r. ⌜ r ≡ isForced mode ⌝ }
 {
@@ -65,9 +68,9 @@ fn is_forced(mode: ExtendedLen) -> bool
     }
 }
 
-// Whether the lengths are extended, for n data bytes and the Le shown.
-fn wide(mode: ExtendedLen, n: usize, e: usize) -> bool
-    ensures { λ r. ⌜ r ≡ wide mode n e ⌝ }
+// Whether lengths are extended, for n data bytes and a written Le of e (rules 3.4 and 3.7).
+fn extended(mode: ExtendedLen, n: usize, e: usize) -> bool
+    ensures { λ r. ⌜ r ≡ extended mode n e ⌝ }
 {
     if 255 < n {
         return true;
@@ -78,24 +81,24 @@ fn wide(mode: ExtendedLen, n: usize, e: usize) -> bool
     is_forced(mode)
 }
 
-// How many bytes Lc takes.
-fn lc_size(wide: bool, n: usize) -> usize
-    ensures { λ r. ⌜ r ≡ lcSize wide n ⌝ }
+// How many bytes Lc takes: none without data, three if extended, else one (rules 3.4 and 3.5).
+fn lc_size(extended: bool, n: usize) -> usize
+    ensures { λ r. ⌜ r ≡ lcSize extended n ⌝ }
 {
     if n == 0 {
         return 0;
     }
-    if wide { 3 } else { 1 }
+    if extended { 3 } else { 1 }
 }
 
-// How many bytes Le takes.
-fn le_size(wide: bool, n: usize, e: usize) -> usize
-    ensures { λ r. ⌜ r ≡ leSize wide n e ⌝ }
+// How many bytes Le takes: none for 0; if extended, three without data and two after Lc; else one (rules 3.6 and 3.7).
+fn le_size(extended: bool, n: usize, e: usize) -> usize
+    ensures { λ r. ⌜ r ≡ leSize extended n e ⌝ }
 {
     if e == 0 {
         return 0;
     }
-    if wide {
+    if extended {
         if n == 0 {
             return 3;
         }
@@ -104,22 +107,23 @@ fn le_size(wide: bool, n: usize, e: usize) -> usize
     1
 }
 
+// The sizes of Lc and Le for n data bytes, and the written Le.
 pub(crate) fn sizes(builder: CommandBuilder, n: usize) -> Fields
     ensures { λ r. ⌜ r ≡ fieldsOf builder n ⌝ }
 {
     let le = builder.le;
     let mode = builder.mode;
-    let shown = asked(lowered_len(mode, le));
-    let extended = wide(mode, n, shown);
+    let written = le_number(lowered_len(mode, le));
+    let is_extended = extended(mode, n, written);
     Fields {
-        lc: lc_size(extended, n),
-        le: le_size(extended, n, shown),
-        shown,
+        lc: lc_size(is_extended, n),
+        le: le_size(is_extended, n, written),
+        written,
     }
 }
 
 impl CommandBuilder {
-    // The builder with the expected length that its command shows: at most 256 in short mode.
+    // The builder with the expected length that its command has: short only lowers it to at most 256 (rule 3.3).
     pub fn lowered(self) -> CommandBuilder
         ensures { λ r. ⌜ lowered-is self r ⌝ }
     {
@@ -137,7 +141,7 @@ impl CommandBuilder {
         }
     }
 
-    // The length of the command with these data.
+    // The length of the command with these data: four plus the bytes of Lc, data and Le (rule 11.9); or 13.
     pub fn required_len(self, data: &[u8]) -> Length
         ensures { λ r. ⌜ required-len-is self (now («data» .entry)) r ⌝ }
     {

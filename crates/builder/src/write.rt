@@ -1,16 +1,19 @@
-// The bytes of a command, written into a lent buffer.
+// Writing a command into a lent buffer: each function writes its own fields into the part that starts at their place.
+// Rules 3.8 and 3.9.
+// Ported, with changes, from src/command.rs of the crate iso7816 0.2.2 (see NOTICE).
 ghost use mathlib.Core.Path.{_≡_};
 ghost use mathlib.Core.List.{_++_};
 ghost use Prim.Native.Nat.{_+_, _≤_};
 ghost use lib.ListN.{length};
-ghost use Rattle.basis.specs.Part.{over};
+ghost use Rattle.basis.specs.Over.{over};
 ghost use Rattle.builder.specs.Bytes.{header, serialize-into-is};
-ghost use Rattle.builder.specs.Sizes.{field, laid, Fits};
+ghost use Rattle.builder.specs.Sizes.{field, laidOut, Fits};
 use crate::CommandBuilder;
 use crate::sizes::Fields;
 use crate::sizes::Length;
 use crate::sizes::sizes;
 
+// The four header bytes.
 fn put_header(builder: CommandBuilder, to: &mut [u8])
     requires { ⌜ 4 ≤ length (now to) ⌝ }
     ensures { λ _. ⌜ now (to .exit) ≡ over (header builder) (now (to .entry)) ⌝ }
@@ -22,7 +25,7 @@ fn put_header(builder: CommandBuilder, to: &mut [u8])
     to[3] = builder.p2;
 }
 
-// A length field of no byte, one, two, or a zero byte and two.
+// A length field of no byte, one, two, or a zero byte and two. 256 in one byte and 65,536 in two are zeros (rule 3.8).
 fn put_field(size: usize, n: usize, to: &mut [u8])
     requires { ⌜ (size ≤ 3) × (size ≤ length (now to)) ⌝ }
     ensures { λ _. ⌜ now (to .exit) ≡ over (field size n) (now (to .entry)) ⌝ }
@@ -46,7 +49,7 @@ fn put_field(size: usize, n: usize, to: &mut [u8])
     to[2] = low;
 }
 
-// Lc of so many bytes, and the data behind it.
+// An Lc of this many bytes, and the data after it.
 fn put_data(lc: usize, data: &[u8], to: &mut [u8])
     requires { ⌜ (lc ≤ 3) × (lc + length (now «data») ≤ length (now to)) ⌝ }
     ensures { λ _. ⌜ now (to .exit) ≡ over (field lc (length (now («data» .entry))) ++ now («data» .entry)) (now (to .entry)) ⌝ }
@@ -55,19 +58,19 @@ fn put_data(lc: usize, data: &[u8], to: &mut [u8])
     bytes::copy(data, &mut to[lc..]);
 }
 
-// A command that fits: header, Lc and data, Le, each written into the part that starts at its place.
+// A command that fits: header, Lc and data, Le, each written into the part that starts at its place (rule 12.12).
 fn put_command(builder: CommandBuilder, sizes: Fields, data: &[u8], to: &mut [u8])
     requires { ⌜ Fits sizes (length (now «data»)) (length (now to)) ⌝ }
-    ensures { λ _. ⌜ now (to .exit) ≡ over (laid builder sizes (now («data» .entry))) (now (to .entry)) ⌝ }
+    ensures { λ _. ⌜ now (to .exit) ≡ over (laidOut builder sizes (now («data» .entry))) (now (to .entry)) ⌝ }
 {
     put_header(builder, to);
     put_data(sizes.lc, data, &mut to[4..]);
     let at_le = 4 + sizes.lc + data.len();
-    put_field(sizes.le, sizes.shown, &mut to[at_le..]);
+    put_field(sizes.le, sizes.written, &mut to[at_le..]);
 }
 
 impl CommandBuilder {
-    // Writes the command with these data into a buffer from a place.
+    // Writes the command with these data into a buffer from a place. Bytes before it and after it stay (rule 3.9).
     pub fn serialize_into(self, data: &[u8], buffer: &mut [u8], at: usize) -> Length
         ensures { λ r. ⌜ serialize-into-is self (now («data» .entry)) (now (buffer .entry)) at r (now (buffer .exit)) ⌝ }
     {

@@ -1,18 +1,18 @@
--- Which case is used for how many data bytes and which Le, and what follows for the bytes of Lc and Le. Assumes nothing.
-use Prim.Native.Nat.{ℕ, zero, suc, _≤_}
+-- Which case is used for how many data bytes and which Le, and what follows for the bytes of Lc and Le.
+use Prim.Native.Nat.{ℕ, zero, suc, _≤_, _<_}
 use mathlib.Core.Path.{_≡_, refl}
 use native.Mathlib.Decide.{decLe}
 use native.Mathlib.Omega.{arith}
 use borrow.Author.Tests.{le-leb, lt-leb, lt-ltb, le-ltb}
 use Rattle.builder.specs.Cases.{Case, case1, case2S, case3S, case4S, case2E, case3E, case4E}
 use Rattle.builder.specs.Cases.{lcBytes, leBytes, unlessForced, afterShort, afterExtended, caseFor}
-use Rattle.builder.specs.Bytes.{leShown, caseOf, lcLen, leLen}
+use Rattle.builder.specs.Bytes.{leWritten, caseOf, lcLen, leLen}
 use Rattle.builder.specs.declared.ExtendedLen.{ExtendedLen}
 use Rattle.builder.specs.declared.ExtendedLen.the-variants.{Unsupported, Supported, Forced}
 use Rattle.builder.specs.declared.CommandBuilder.{CommandBuilder}
 use Rattle.builder.proofs.Lengths.{case-few}
 
--- what is known of n data bytes and an Le of e, by the case that is used for them
+-- what each case says of the n data bytes and the Le of e that it is used for
 abbrev pub Used : Case → ℕ → ℕ → Type 0
 Used case1 n e = (n ≡ 0) × (e ≡ 0)
 Used case2S n e = (n ≡ 0) × (1 ≤ e) × (e ≤ 256)
@@ -28,8 +28,8 @@ by-mode P Unsupported x y h g = h (λ e. let z : _≡_ {A = ℕ} 0 1 = cc in ome
 by-mode P Supported x y h g = h (λ e. let z : _≡_ {A = ℕ} 0 1 = cc in omega arith)
 by-mode P Forced x y h g = g refl
 
--- What holds of the case that is used for an Le without data, and for data: it holds of the short case, where Le, data and mode allow that,
--- and of the extended one, where they do not.
+-- A property of the case that is used for an Le without data (rule 3.7): show it of the short case, if Le and mode
+-- allow that, and of the extended one, if they do not.
 pub by-le : (P : Case → Type 0) (m : ExtendedLen) (e : ℕ) → 1 ≤ e → (e ≤ 256 → (m ≡ Forced → ⊥) → P case2S)
     → ((e ≤ 256 → m ≡ Forced) → P case2E) → P (caseFor m 0 e)
 unfolding caseFor
@@ -42,6 +42,7 @@ by-le P m (suc e) some short extended =
           rw (lt-leb (suc e) 256 (omega arith)) (by-mode P m case2E case2E (λ _. long) (λ _. long))
     ]
 
+-- the same for data (rules 3.4 and 3.5)
 pub by-data : (P : Case → Type 0) (m : ExtendedLen) (n e : ℕ) → 1 ≤ n → (n ≤ 255 → e ≤ 256 → (m ≡ Forced → ⊥) → P (afterShort e))
     → ((n ≤ 255 → e ≤ 256 → m ≡ Forced) → P (afterExtended e)) → P (caseFor m n e)
 unfolding caseFor
@@ -58,6 +59,7 @@ by-data P m (suc n) e some short extended =
       | no h ↦ rw (lt-ltb 255 (suc n) (omega arith)) (extended (λ l _. absurd (omega arith)))
     ]
 
+-- each case is used for what `Used` says
 none-used : (m : ExtendedLen) → Used (caseFor m 0 0) 0 0
 unfolding caseFor
 none-used m = (refl, refl)
@@ -78,7 +80,7 @@ case-used m (suc n) e =
     by-data (λ x. Used x (suc n) e) m (suc n) e (omega arith) (λ h g _. short-used (suc n) e (omega arith) h g)
     (λ _. extended-used (suc n) e (omega arith))
 
--- Le 0 is omitted
+-- Le 0 is omitted (rules 3.6 and 3.7)
 no-le : (x : Case) (n e : ℕ) → Used x n e → e ≡ 0 → leBytes x ≡ 0
 no-le case1 n e u z = refl
 no-le case2S n e u z = absurd (omega (arith, u .1))
@@ -88,10 +90,11 @@ no-le case2E n e u z = absurd (omega (arith, u .1))
 no-le case3E n e u z = refl
 no-le case4E n e u z = absurd (omega (arith, u .1))
 
-pub le-none : (b : CommandBuilder) (n : ℕ) → leShown b ≡ 0 → leLen b n ≡ 0
+pub le-none : (b : CommandBuilder) (n : ℕ) → leWritten b ≡ 0 → leLen b n ≡ 0
 unfolding leLen caseOf
-le-none b n h = no-le (caseFor (b .mode) n (leShown b)) n (leShown b) (case-used (b .mode) n (leShown b)) h
+le-none b n h = no-le (caseFor (b .mode) n (leWritten b)) n (leWritten b) (case-used (b .mode) n (leWritten b)) h
 
+-- the bytes of Lc and Le with data
 lc-short : (e : ℕ) → lcBytes (afterShort e) ≡ 1
 lc-short zero = refl
 lc-short (suc e) = refl
@@ -100,7 +103,24 @@ lc-extended : (e : ℕ) → lcBytes (afterExtended e) ≡ 3
 lc-extended zero = refl
 lc-extended (suc e) = refl
 
--- Lc of fewer data without Le is not longer
+le-extended : (e : ℕ) → 1 ≤ e → leBytes (afterExtended e) ≡ 2
+le-extended zero h = absurd (omega arith)
+le-extended (suc e) h = refl
+
+-- more than 255 data bytes take an Lc of three bytes and an Le of two, in every mode (rule 4.2)
+pub lc-long : (b : CommandBuilder) (n : ℕ) → 255 < n → lcLen b n ≡ 3
+unfolding lcLen caseOf
+lc-long b n h =
+    by-data (λ x. lcBytes x ≡ 3) (b .mode) n (leWritten b) (omega arith) (λ few _ _. absurd (omega arith))
+    (λ _. lc-extended (leWritten b))
+
+pub le-long : (b : CommandBuilder) (n : ℕ) → 255 < n → 1 ≤ leWritten b → leLen b n ≡ 2
+unfolding leLen caseOf
+le-long b n h g =
+    by-data (λ x. leBytes x ≡ 2) (b .mode) n (leWritten b) (omega arith) (λ few _ _. absurd (omega arith))
+    (λ _. le-extended (leWritten b) g)
+
+-- fewer data without Le have no longer Lc
 lc-more : (m : ExtendedLen) (k n e : ℕ) → 1 ≤ k → k ≤ n → lcBytes (caseFor m k 0) ≤ lcBytes (caseFor m n e)
 lc-more m k n e some h =
     let part = lcBytes (caseFor m k 0) in
@@ -117,6 +137,7 @@ lc-fewer : (m : ExtendedLen) (k n e : ℕ) → k ≤ n → lcBytes (caseFor m k 
 lc-fewer m zero n e h = omega (arith, lc-none m)
 lc-fewer m (suc k) n e h = lc-more m (suc k) n e (omega arith) h
 
-pub lc-part : (a b : CommandBuilder) (k n : ℕ) → a .mode ≡ b .mode → leShown a ≡ 0 → k ≤ n → lcLen a k ≤ lcLen b n
+-- so a part without Le has no longer Lc than the whole command
+pub lc-part : (a b : CommandBuilder) (k n : ℕ) → a .mode ≡ b .mode → leWritten a ≡ 0 → k ≤ n → lcLen a k ≤ lcLen b n
 unfolding lcLen caseOf
-lc-part a b k n m e h = rw (e, m) (lc-fewer (b .mode) k n (leShown b) h)
+lc-part a b k n m e h = rw (e, m) (lc-fewer (b .mode) k n (leWritten b) h)

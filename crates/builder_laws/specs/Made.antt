@@ -1,11 +1,11 @@
--- What `new` makes. Document 01, "Numbers of refusal" (3, 13) and what follows: a builder tests its class byte when made.
+-- What `new` makes (rules 1.27 and 3.2).
 use Prim.Native.Nat.{ℕ, _≤_}
 use mathlib.Core.Path.{_≡_}
 use Rattle.builder.specs.declared.ExpectedLen.{ExpectedLen}
 use Rattle.builder.specs.declared.ExtendedLen.{ExtendedLen}
 use Rattle.builder.specs.declared.CommandBuilder.{CommandBuilder}
 
--- b has these fields, its class is one, and n data bytes are not too many
+-- b has these fields, its class byte is not 0xFF, and n data bytes are not too many
 pub record Made (c i p q n : ℕ) (e : ExpectedLen) (m : ExtendedLen) (b : CommandBuilder) : Type 0 where
   pub class : b .class .cla ≡ 0xFF → ⊥
   pub few : n ≤ 65535

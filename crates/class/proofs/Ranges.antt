@@ -1,11 +1,11 @@
--- The range of a class byte, by the bytes that lie in it and by what the code was told of it. Assumes nothing.
+-- The range of a class byte: which bytes lie in it, and what the code knows of it after a match.
 use Prim.Native.Nat.{ℕ, _≤_, _<_}
 use mathlib.Core.Path.{_≡_, sym, ap, _∙_}
 use native.Mathlib.Omega.{arith}
 use borrow.Author.Tests.{lt-ltb, le-ltb}
-use Rattle.basis.specs.Reply.{is, no}
+use Rattle.basis.specs.Reply.{ok, refused}
 use Rattle.class.specs.Class.{fromByte}
-use Rattle.class.specs.Range.{rangeOf, fromCla, saidRange}
+use Rattle.class.specs.Range.{rangeOf, fromCla, rangeAsNumber}
 use Rattle.class.specs.declared.Class.{Class}
 use Rattle.class.specs.declared.range.Range.{Range}
 use Rattle.class.specs.declared.range.Range.the-variants as range
@@ -28,20 +28,20 @@ module _ (c : ℕ) where
   unfolding rangeOf
   is-proprietary g = rw (le-ltb c 0x20 (omega arith), le-ltb c 0x40 (omega arith), le-ltb c 0x80 g)
 
--- from what the code was told of an answer and of the interindustry range in it
-module _ (x : Range) (w k : Interindustry) (told-range : x ≡ range.Interindustry w) (told-which : w ≡ k) where
-  pub named : saidRange x ≡ saidRange (range.Interindustry k)
-  named = ap saidRange (told-range ∙ ap range.Interindustry told-which)
+-- the code has matched a range x as interindustry with w, and w as k: then the number of x is that of k
+module _ (x : Range) (w k : Interindustry) (matched-range : x ≡ range.Interindustry w) (matched-which : w ≡ k) where
+  pub number-of-interindustry : rangeAsNumber x ≡ rangeAsNumber (range.Interindustry k)
+  number-of-interindustry = ap rangeAsNumber (matched-range ∙ ap range.Interindustry matched-which)
 
-  pub interindustry : (c : ℕ) → saidRange x ≡ rangeOf c → rangeOf c ≡ saidRange (range.Interindustry k)
-  interindustry c e = sym e ∙ named
+  pub range-of-interindustry : (c : ℕ) → rangeAsNumber x ≡ rangeOf c → rangeOf c ≡ rangeAsNumber (range.Interindustry k)
+  range-of-interindustry c e = sym e ∙ number-of-interindustry
 
--- the range of a class byte, from what the code was told of its class
+-- the range of a byte, from the class that the byte has or from its refusal
 module _ (c d : ℕ) where
-  pub of-class : (x : Class) (n : ℕ) → fromByte d ≡ is x → d ≡ c → n ≡ rangeOf (x .cla) → is n ≡ fromCla c
+  pub range-of-class : (x : Class) (n : ℕ) → fromByte d ≡ ok x → d ≡ c → n ≡ rangeOf (x .cla) → ok n ≡ fromCla c
   unfolding fromCla
-  of-class x n e f g = rw (← f, e, g)
+  range-of-class x n e f g = rw (← f, e, g)
 
-  pub of-none : (k j : ℕ) → fromByte d ≡ no k → d ≡ c → j ≡ k → no j ≡ fromCla c
+  pub range-refused : (k j : ℕ) → fromByte d ≡ refused k → d ≡ c → j ≡ k → refused j ≡ fromCla c
   unfolding fromCla
-  of-none k j e f g = rw (← f, e, g)
+  range-refused k j e f g = rw (← f, e, g)

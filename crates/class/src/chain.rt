@@ -1,8 +1,9 @@
-// The chaining bit, 0x10.
+// The chaining bit, 0x10 (rules 8.2 and 8.3).
+// Ported, with changes, from src/command/class.rs of the crate iso7816 0.2.2 (see NOTICE).
 ghost use Rattle.class.specs.Chain.{chain-is, as-chained-is, last-or-only-is, not-the-last-is};
 use crate::Class;
 
-// What bit 0x10 says of a command; no operation gives `Unknown`.
+// What bit 0x10 says of a command. No operation returns `Unknown`.
 pub enum Chain {
     LastOrOnly,
     NotTheLast,
@@ -34,7 +35,7 @@ impl Chain {
 }
 
 impl Class {
-    // What bit 0x10 of the byte says.
+    // What bit 0x10 of the byte says (rule 8.2).
     pub fn chain(self) -> Chain
         ensures { λ r. ⌜ chain-is self r ⌝ }
     {
@@ -45,7 +46,7 @@ impl Class {
         }
     }
 
-    // The class with bit 0x10 set; of 0xEF that is 0xFF, which is no class.
+    // The class with bit 0x10 set; of 0xEF that is 0xFF, which is no class (rule 8.3).
     pub fn as_chained(self) -> Class
         ensures { λ r. ⌜ as-chained-is self r ⌝ }
     {

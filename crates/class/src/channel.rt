@@ -1,4 +1,5 @@
-// The logical channel.
+// The logical channel (rules 8.6 and 8.7).
+// Ported, with changes, from src/command/class.rs of the crate iso7816 0.2.2 (see NOTICE).
 ghost use mathlib.Core.Path.{_≡_};
 ghost use Rattle.class.specs.Channel.{furtherOf, channel-is};
 use crate::Class;
@@ -12,7 +13,7 @@ pub enum Channel {
     None,
 }
 
-// Of a further interindustry class.
+// The channel of a further interindustry class, 40 to 7F (rule 8.7).
 fn further(reading: Reading, cla: u8) -> u8
     ensures { λ r. ⌜ r ≡ furtherOf reading cla ⌝ }
 {
@@ -23,7 +24,7 @@ fn further(reading: Reading, cla: u8) -> u8
 }
 
 impl Class {
-    // The channel, in the crate's or the standard reading.
+    // The channel in a reading (rule 8.6 outside 40 to 7F).
     pub fn channel(self, reading: Reading) -> Channel
         ensures { λ r. ⌜ channel-is reading self r ⌝ }
     {

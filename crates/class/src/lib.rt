@@ -1,4 +1,6 @@
-// The class byte of a command: its range, secure messaging, chaining and channel, in the crate's and the standard reading.
+// The class byte of a command: its range, secure messaging, chaining and channel, in the crate and the standard
+// reading.
+// Ported, with changes, from src/command/class.rs of the crate iso7816 0.2.2 (see NOTICE).
 ghost use Rattle.class.specs.Class.{from-byte-is, into-inner-is};
 
 mod chain;
@@ -18,19 +20,19 @@ pub struct Class {
     cla: u8,
 }
 
-// Whose rule is asked: the Rust's, or that of ISO/IEC 7816-4.
+// The two readings: what the Rust says of a class, and what ISO/IEC 7816-4 says.
 pub enum Reading {
     Crate,
     Standard,
 }
 
-// The class of a byte; 0xFF is none (3).
+// The class of a byte; 0xFF is no class (3).
 pub enum FromByte {
     Class(Class),
     Refused(u8),
 }
 
-// The Rust's constants: interindustry; proprietary without secure messaging, and with it.
+// The three constants of the Rust (rule 8.8): interindustry; proprietary without secure messaging, and with it.
 pub const ZERO_CLA: Class = Class { cla: 0x00 };
 
 pub const NO_SM_CLA: Class = Class { cla: 0x80 };
@@ -38,7 +40,7 @@ pub const NO_SM_CLA: Class = Class { cla: 0x80 };
 pub const SM_CLA: Class = Class { cla: 0x84 };
 
 impl Class {
-    // The class of a byte: 3 for 0xFF.
+    // The class of a byte; 0xFF is refused with 3 (rule 1.3).
     pub fn from_byte(cla: u8) -> FromByte
         ensures { λ r. ⌜ from-byte-is cla r ⌝ }
     {
@@ -48,7 +50,7 @@ impl Class {
         FromByte::Class(Class { cla })
     }
 
-    // Its byte.
+    // The byte of a class.
     pub fn into_inner(self) -> u8
         ensures { λ r. ⌜ into-inner-is self r ⌝ }
     {

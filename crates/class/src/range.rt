@@ -1,4 +1,5 @@
-// The four ranges of class bytes.
+// The four ranges of class bytes (rule 8.1).
+// Ported, with changes, from src/command/class.rs of the crate iso7816 0.2.2 (see NOTICE).
 ghost use Rattle.class.specs.Range.{range-is, from-cla-is};
 use crate::Class;
 use crate::FromByte;
@@ -23,7 +24,7 @@ pub enum FromCla {
 }
 
 impl Range {
-    // The range of a class byte: 3 for 0xFF.
+    // The range of a class byte; 0xFF is refused with 3.
     pub fn from_cla(cla: u8) -> FromCla
         ensures { λ r. ⌜ from-cla-is cla r ⌝ }
     {
@@ -35,7 +36,7 @@ impl Range {
 }
 
 impl Class {
-    // The range in which the byte lies.
+    // The range in which the byte lies (rule 8.1).
     pub fn range(self) -> Range
         ensures { λ r. ⌜ range-is self r ⌝ }
     {

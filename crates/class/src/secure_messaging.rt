@@ -1,6 +1,7 @@
-// The secure messaging indication.
+// The secure messaging indication (rules 8.4 and 8.5).
+// Ported, with changes, from src/command/class.rs of the crate iso7816 0.2.2 (see NOTICE).
 ghost use mathlib.Core.Path.{_≡_};
-ghost use Rattle.class.specs.SecureMessaging.{firstOf, furtherOf, saidSecureMessaging, secure-messaging-is, none-is};
+ghost use Rattle.class.specs.SecureMessaging.{firstOf, furtherOf, secureMessagingAsNumber, secure-messaging-is, none-is};
 use crate::Class;
 use crate::Interindustry;
 use crate::Range;
@@ -16,7 +17,7 @@ pub enum SecureMessaging {
 }
 
 impl SecureMessaging {
-    // Whether it says that there is none.
+    // Whether there is no secure messaging.
     pub fn none(self) -> bool
         ensures { λ r. ⌜ none-is self r ⌝ }
     {
@@ -30,9 +31,9 @@ impl SecureMessaging {
     }
 }
 
-// Of a first interindustry class: bits 4 and 3.
+// The indication of a first interindustry class: bits 4 and 3 (rule 8.4).
 fn first(cla: u8) -> SecureMessaging
-    ensures { λ r. ⌜ saidSecureMessaging r ≡ firstOf cla ⌝ }
+    ensures { λ r. ⌜ secureMessagingAsNumber r ≡ firstOf cla ⌝ }
 {
     let bits = cla / 4 % 4;
     match bits {
@@ -43,9 +44,9 @@ fn first(cla: u8) -> SecureMessaging
     }
 }
 
-// Of a further interindustry class.
+// The indication of a further interindustry class, 40 to 7F (rule 8.5).
 fn further(reading: Reading, cla: u8) -> SecureMessaging
-    ensures { λ r. ⌜ saidSecureMessaging r ≡ furtherOf reading cla ⌝ }
+    ensures { λ r. ⌜ secureMessagingAsNumber r ≡ furtherOf reading cla ⌝ }
 {
     match reading {
         Reading::Crate => SecureMessaging::Standard,
@@ -60,7 +61,7 @@ fn further(reading: Reading, cla: u8) -> SecureMessaging
 }
 
 impl Class {
-    // The indication, in the crate's or the standard reading.
+    // The indication in a reading (rule 8.4 outside 40 to 7F).
     pub fn secure_messaging(self, reading: Reading) -> SecureMessaging
         ensures { λ r. ⌜ secure-messaging-is reading self r ⌝ }
     {

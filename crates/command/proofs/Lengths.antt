@@ -1,4 +1,4 @@
--- Laws of the body's lengths. Assumes nothing.
+-- Laws of the lengths of a body: what it is read as in each case, and that a command is as long as its fields.
 use Prim.Native.Nat.{ℕ, zero, suc, _+_, _≤_}
 use mathlib.Core.Path.{_≡_, refl, sym}
 use mathlib.Core.Bool.{true, false}
@@ -8,7 +8,7 @@ use native.Nat.{ℕᴺ-discrete}
 use borrow.Author.Tests.{eqb-true, eq-eqb, ne-eqb}
 use lib.Dec.{eqb}
 use lib.ListN.{length}
-use Rattle.basis.specs.Reply.{no as refused}
+use Rattle.basis.specs.Reply.{refused}
 use Rattle.basis.proofs.Reply.{All, all-cond}
 use Rattle.class.specs.declared.Class.{Class}
 use Rattle.class.specs.declared.Reading.{Reading}
@@ -17,22 +17,22 @@ use Rattle.command.specs.Body.{lengths, orMost, byte, pair, shortBody, l
 use Rattle.command.specs.Command.{viewOf, lcBytes, leBytes, Measured}
 use Rattle.command.specs.declared.body.ParsedLengths.{ParsedLengths}
 
--- a number that is not zero stays
+-- a number that is not zero means itself
 pub or-most : (most n : ℕ) → (n ≡ 0 → ⊥) → n ≡ orMost most n
 or-most most zero h = absurd (h refl)
 or-most most (suc n) h = refl
 
 -- a body of two bytes or more, by its first byte
 module _ (r : Reading) (s : List ℕ) (l : 2 ≤ length s) where
-  pub from-zero : byte s 0 ≡ 0 → bodyOf r s ≡ extendedOf r s
+  pub first-byte-zero : byte s 0 ≡ 0 → bodyOf r s ≡ extendedOf r s
   unfolding bodyOf
-  from-zero z = rw (ne-eqb (length s) 0 (omega arith), ne-eqb (length s) 1 (omega arith), eq-eqb (byte s 0) 0 z)
+  first-byte-zero z = rw (ne-eqb (length s) 0 (omega arith), ne-eqb (length s) 1 (omega arith), eq-eqb (byte s 0) 0 z)
 
-  pub from-other : (byte s 0 ≡ 0 → ⊥) → bodyOf r s ≡ shortBody (byte s 0) s
+  pub first-byte-other : (byte s 0 ≡ 0 → ⊥) → bodyOf r s ≡ shortBody (byte s 0) s
   unfolding bodyOf
-  from-other z = rw (ne-eqb (length s) 0 (omega arith), ne-eqb (length s) 1 (omega arith), ne-eqb (byte s 0) 0 z)
+  first-byte-other z = rw (ne-eqb (length s) 0 (omega arith), ne-eqb (length s) 1 (omega arith), ne-eqb (byte s 0) 0 z)
 
--- data of n bytes, alone or with Le
+-- n data bytes alone, with Le, and a length that fits neither
 module _ (n : ℕ) (s : List ℕ) where
   pub short-alone : length s ≡ 1 + n → shortBody n s ≡ lengths 1 n 0 false
   unfolding shortBody
@@ -58,20 +58,20 @@ module _ (n : ℕ) (s : List ℕ) where
   unfolding longBody
   long-other h g = rw (ne-eqb (length s) (3 + n) h, ne-eqb (length s) (5 + n) g)
 
--- behind three bytes come data
-pub behind-three : (s : List ℕ) → 4 ≤ length s → extendedBody s ≡ longBody (pair s 1) s
+-- of more than three bytes, the first three are an extended Lc
+pub extended-with-data : (s : List ℕ) → 4 ≤ length s → extendedBody s ≡ longBody (pair s 1) s
 unfolding extendedBody
-behind-three s l = rw (ne-eqb (length s) 2 (omega arith), ne-eqb (length s) 3 (omega arith))
+extended-with-data s l = rw (ne-eqb (length s) 2 (omega arith), ne-eqb (length s) 3 (omega arith))
 
--- the standard reading of a first byte 0 is the crate's, save where Le follows an Lc of zero
-pub lc-zero : (s : List ℕ) → length s ≡ 5 → pair s 1 ≡ 0 → refused 21 ≡ extendedByStandard s
+-- a first byte 0 in the standard reading: 21 if Le follows an Lc of zero, else as in the crate reading
+pub standard-zero-lc : (s : List ℕ) → length s ≡ 5 → pair s 1 ≡ 0 → refused 21 ≡ extendedByStandard s
 unfolding extendedByStandard
-lc-zero s l p =
+standard-zero-lc s l p =
     rw (ne-eqb (length s) 3 (omega arith), ne-eqb (length s) 2 (omega arith), eq-eqb (pair s 1) 0 p, eq-eqb (length s) 5 l)
 
-pub as-crate : (s : List ℕ) → (length s ≡ 5 → pair s 1 ≡ 0 → ⊥) → extendedBody s ≡ extendedByStandard s
+pub standard-as-crate : (s : List ℕ) → (length s ≡ 5 → pair s 1 ≡ 0 → ⊥) → extendedBody s ≡ extendedByStandard s
 unfolding extendedBody extendedByStandard
-as-crate s h =
+standard-as-crate s h =
     elim (ℕᴺ-discrete (length s) 3) [
       | yes l ↦ rw (ne-eqb (length s) 2 (omega arith), eq-eqb (length s) 3 l)
       | no l ↦
@@ -84,17 +84,17 @@ as-crate s h =
           ]
     ]
 
--- either reading
-pub agree : (r : Reading) (s : List ℕ) → (length s ≡ 5 → pair s 1 ≡ 0 → ⊥) → extendedOf r s ≡ extendedBody s
-agree Crate s h = refl
-agree Standard s h = sym (as-crate s h)
+-- in either reading, a first byte 0 without an Lc of zero and Le
+pub readings-agree : (r : Reading) (s : List ℕ) → (length s ≡ 5 → pair s 1 ≡ 0 → ⊥) → extendedOf r s ≡ extendedBody s
+readings-agree Crate s h = refl
+readings-agree Standard s h = sym (standard-as-crate s h)
 
--- an Le that is there is never zero
-some : (most n : ℕ) → 1 ≤ most → eqb (orMost most n) 0 ≡ false
-some most zero h = ne-eqb most 0 (omega arith)
-some most (suc n) h = ne-eqb (suc n) 0 (omega arith)
+-- an Le that is written is never read as zero
+not-zero : (most n : ℕ) → 1 ≤ most → eqb (orMost most n) 0 ≡ false
+not-zero most zero h = ne-eqb most 0 (omega arith)
+not-zero most (suc n) h = ne-eqb (suc n) 0 (omega arith)
 
--- a command of four bytes and this body is as long as its fields
+-- a header of four bytes and this body are as long as the fields that are read
 abbrev pub Sized : List ℕ → ParsedLengths → Type 0
 Sized s b = (c : Class) (t : List ℕ) → Measured (4 + length s) (viewOf c t b)
 
@@ -105,7 +105,7 @@ short-sized n s =
     (λ e c t. record { start = refl; whole = omega (arith, eqb-true (length s) (1 + n) e) })
     (λ d.
     all-cond (Sized s) (eqb (length s) (2 + n)) _ _
-    (λ e c t. record { start = refl; whole = rw (some 256 (byte s (1 + n)) (omega arith)) (omega (arith, eqb-true (length s) (2 + n) e)) })
+    (λ e c t. record { start = refl; whole = rw (not-zero 256 (byte s (1 + n)) (omega arith)) (omega (arith, eqb-true (length s) (2 + n) e)) })
     (λ e. tt))
 
 long-sized : (n : ℕ) (s : List ℕ) → All (Sized s) (longBody n s)
@@ -115,12 +115,12 @@ long-sized n s =
     (λ e c t. record { start = refl; whole = omega (arith, eqb-true (length s) (3 + n) e) })
     (λ d.
     all-cond (Sized s) (eqb (length s) (5 + n)) _ _
-    (λ e c t. record { start = refl; whole = rw (some 65536 (pair s (3 + n)) (omega arith)) (omega (arith, eqb-true (length s) (5 + n) e)) })
+    (λ e c t. record { start = refl; whole = rw (not-zero 65536 (pair s (3 + n)) (omega arith)) (omega (arith, eqb-true (length s) (5 + n) e)) })
     (λ e. tt))
 
 three-sized : (s : List ℕ) → length s ≡ 3 → All (Sized s) (lengths 0 0 (orMost 65536 (pair s 1)) true)
 unfolding lcBytes leBytes
-three-sized s l c t = record { start = refl; whole = rw (some 65536 (pair s 1) (omega arith)) (omega arith) }
+three-sized s l c t = record { start = refl; whole = rw (not-zero 65536 (pair s 1) (omega arith)) (omega arith) }
 
 extended-sized : (r : Reading) (s : List ℕ) → All (Sized s) (extendedOf r s)
 unfolding extendedBody extendedByStandard
@@ -141,5 +141,5 @@ sized r s =
     all-cond (Sized s) (eqb (length s) 0) _ _ (λ e c t. record { start = refl; whole = omega (arith, eqb-true (length s) 0 e) })
     (λ e.
     all-cond (Sized s) (eqb (length s) 1) _ _
-    (λ d c t. record { start = refl; whole = rw (some 256 (byte s 0) (omega arith)) (omega (arith, eqb-true (length s) 1 d)) })
+    (λ d c t. record { start = refl; whole = rw (not-zero 256 (byte s 0) (omega arith)) (omega (arith, eqb-true (length s) 1 d)) })
     (λ d. all-cond (Sized s) (eqb (byte s 0) 0) _ _ (λ z. extended-sized r s) (λ z. short-sized (byte s 0) s)))

@@ -1,12 +1,12 @@
--- An owned copy of a command and its extension. Document 01, "Numbers of refusal" (2, 18 and what follows the table) and "Command body".
+-- An owned copy of a command in a lent room, and its extension. Rules 1.2, 1.18, 1.26, 2.9 and 2.10.
 use Prim.Native.Nat.{ℕ, _+_}
 use mathlib.Core.Path.{_≡_}
 use mathlib.Core.Bool.{Bool, true, cond}
 use mathlib.Core.List.{List}
 use lib.Dec.{ltb}
 use lib.ListN.{length}
-use Rattle.basis.specs.Reply.{Reply, is, no, then}
-use Rattle.basis.specs.Part.{over, put}
+use Rattle.basis.specs.Reply.{Reply, ok, refused, then}
+use Rattle.basis.specs.Over.{over, overAt}
 use Rattle.class.specs.declared.Reading.{Reading}
 use Rattle.command.specs.Command.{parse, dataIn}
 use Rattle.command.specs.declared.CommandView.{CommandView}
@@ -17,55 +17,60 @@ use Rattle.command.specs.declared.owned.Extending.{Extending}
 use Rattle.command.specs.declared.owned.Extending.the-variants as extending
 use Rattle.command.specs.declared.owned.Extended.{Extended}
 
--- the header and expected length of a view, with so many data bytes and this flag
+-- the header and expected length of a view, with n data bytes and the flag x
 abbrev pub takenOf : CommandView → ℕ → Bool → Command
 takenOf v n x =
     record { class = v .class; instruction = v .instruction; p1 = v .p1; p2 = v .p2; len = n; le = v .le; extended = x }
 
--- a copy in a room of m bytes: 2 where the data do not fit
+-- a copy in a room of m bytes: 2 if the data do not fit (rule 1.2)
 unfoldable pub ownedOf : ℕ → CommandView → Reply Command
-ownedOf m v = cond (ltb m (v .len)) (no 2) (is (takenOf v (v .len) (v .extended)))
+ownedOf m v = cond (ltb m (v .len)) (refused 2) (ok (takenOf v (v .len) (v .extended)))
 
--- the room after it: the data from its beginning, bytes past them stay; a refusal changes no byte
-abbrev pub copied : Reply Command → List ℕ → List ℕ → List ℕ
-copied (is c) d room = over d room
-copied (no k) d room = room
+-- the room after it: the data from its beginning, bytes past them as they were (rule 2.9); a refusal changes no byte
+abbrev pub copiedRoom : Reply Command → List ℕ → List ℕ → List ℕ
+copiedRoom (ok c) d room = over d room
+copiedRoom (refused k) d room = room
 
-abbrev pub saidOwned : Owned → Reply Command
-saidOwned (owned.Command c) = is c
-saidOwned (owned.Refused k) = no k
+-- an answer as a reply
+abbrev pub ownedAsReply : Owned → Reply Command
+ownedAsReply (owned.Command c) = ok c
+ownedAsReply (owned.Refused k) = refused k
 
--- the promise of `Command::try_from`
+-- the promise of `Command::try_from`: what reading refuses is refused before 2 (rule 1.23)
 pub record owned-is (r : Reading) (s room : List ℕ) (x : Owned) (after : List ℕ) : Type 0 where
-  pub reply : saidOwned x ≡ then (parse r s) (ownedOf (length room))
-  pub buffer : after ≡ copied (then (parse r s) (ownedOf (length room))) (dataIn s (parse r s)) room
+  pub reply : ownedAsReply x ≡ then (parse r s) (ownedOf (length room))
+  pub buffer : after ≡ copiedRoom (then (parse r s) (ownedOf (length room))) (dataIn s (parse r s)) room
 
--- an extension: 18 where held and new data exceed the room
+-- how many data bytes are held after n new ones, in a room of m bytes: 18 if they exceed it together (rule 1.18)
 unfoldable pub extendOf : ℕ → ℕ → ℕ → Reply ℕ
-extendOf held n m = cond (ltb m (held + n)) (no 18) (is (held + n))
+extendOf held n m = cond (ltb m (held + n)) (refused 18) (ok (held + n))
 
-abbrev pub saidExtending : Extending → Reply (Unit {0})
-saidExtending extending.Done = is tt
-saidExtending (extending.Refused k) = no k
+-- an answer as a reply
+abbrev pub extendingAsReply : Extending → Reply (Unit {0})
+extendingAsReply extending.Done = ok tt
+extendingAsReply (extending.Refused k) = refused k
 
+-- a reply without its number
 abbrev pub done : Reply ℕ → Reply (Unit {0})
-done x = then x (λ n. is tt)
+done x = then x (λ n. ok tt)
 
--- the data held after it, and the room
+-- how many data bytes are held after an extension: a refusal leaves those held before
 abbrev pub heldAfter : Reply ℕ → ℕ → ℕ
-heldAfter (is n) held = n
-heldAfter (no k) held = held
+heldAfter (ok n) held = n
+heldAfter (refused k) held = held
 
+-- the room after an extension: the new data after those held, bytes past them as they were (rule 2.10)
 abbrev pub extendedRoom : Reply ℕ → ℕ → List ℕ → List ℕ → List ℕ
-extendedRoom (is n) held d room = put held d room
-extendedRoom (no k) held d room = room
+extendedRoom (ok n) held d room = overAt held d room
+extendedRoom (refused k) held d room = room
 
--- the promise of `extend_from_command_view`: header, expected length and flag are the new ones, also with a refusal
-pub record extended-is (c : Command) (v : CommandView) (d room : List ℕ) (x : Extended) (after : List ℕ) : Type 0 where
-  pub reply : saidExtending (x .answer) ≡ done (extendOf (c .len) (length d) (length room))
+-- the promise of `extend_from_command_view`: header and expected length are those of v and the flag is true, also with
+-- a refusal (rule 1.26)
+pub record extend-from-command-view-is (c : Command) (v : CommandView) (d room : List ℕ) (x : Extended) (after : List ℕ) : Type 0 where
+  pub reply : extendingAsReply (x .answer) ≡ done (extendOf (c .len) (length d) (length room))
   pub command : x .command ≡ takenOf v (heldAfter (extendOf (c .len) (length d) (length room)) (c .len)) true
   pub buffer : after ≡ extendedRoom (extendOf (c .len) (length d) (length room)) (c .len) d room
 
--- a refused extension: the held data stay
-abbrev pub refusedOf : CommandView → ℕ → Extended
-refusedOf v held = record { answer = extending.Refused 18; command = takenOf v held true }
+-- a refused extension: the held data stay (rule 1.26)
+abbrev pub refusedExtension : CommandView → ℕ → Extended
+refusedExtension v held = record { answer = extending.Refused 18; command = takenOf v held true }

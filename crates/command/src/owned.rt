@@ -1,6 +1,8 @@
-// An owned copy of a command: its numbers here, its data in a room that the caller lends.
+// An owned copy of a command and its extension: its numbers by value, its data in a room that the caller lends.
+// Rules 2.9 and 2.10.
+// Ported, with changes, from src/command.rs of the crate iso7816 0.2.2 (see NOTICE).
 ghost use mathlib.Core.Path.{_≡_};
-ghost use Rattle.command.specs.Owned.{takenOf, refusedOf, owned-is, extended-is};
+ghost use Rattle.command.specs.Owned.{takenOf, refusedExtension, owned-is, extend-from-command-view-is};
 use crate::CommandView;
 use crate::Parsed;
 use class::Class;
@@ -17,25 +19,25 @@ pub struct Command {
     pub extended: bool,
 }
 
-// A copy, or the refusal: those of reading, and 2 where the data are longer than the room.
+// A copy, or the refusal: those of reading, then 2 if the data are longer than the room (rules 1.2 and 1.23).
 pub enum Owned {
     Command(Command),
     Refused(u8),
 }
 
-// Extended, or 18 where held and new data exceed the room.
+// Extended, or 18 if held and new data together exceed the room (rule 1.18).
 pub enum Extending {
     Done,
     Refused(u8),
 }
 
-// The answer, and the command: also beside a refusal its header, expected length and flag are the new ones.
+// The answer, and the command: its header, expected length and flag are the new ones, also with a refusal (rule 1.26).
 pub struct Extended {
     pub answer: Extending,
     pub command: Command,
 }
 
-// The header, expected length and flag of a view, with so many bytes of data.
+// The header and expected length of a view, with this many data bytes and this flag.
 fn taken(view: CommandView, len: usize, extended: bool) -> Command
     ensures { λ r. ⌜ r ≡ takenOf view len extended ⌝ }
 {
@@ -52,7 +54,7 @@ fn taken(view: CommandView, len: usize, extended: bool) -> Command
 }
 
 impl Command {
-    // Copies the data of a command to the front of a room.
+    // Reads a command and copies its data to the beginning of a room. Bytes past them stay (rule 2.9).
     pub fn try_from(reading: Reading, apdu: &[u8], room: &mut [u8]) -> Owned
         ensures { λ r. ⌜ owned-is reading (now (apdu .entry)) (now (room .entry)) r (now (room .exit)) ⌝ }
     {
@@ -71,22 +73,23 @@ impl Command {
         }
     }
 
-    // Takes the header and expected length of the next command, and appends its data in the room.
+    // Takes the header and expected length of the next command, sets the flag, and puts its data after those held.
+    // Bytes past them stay (rule 2.10).
     pub fn extend_from_command_view(
         self,
         view: CommandView,
         data: &[u8],
         room: &mut [u8],
     ) -> Extended
-        ensures { λ r. ⌜ extended-is self view (now («data» .entry)) (now (room .entry)) r (now (room .exit)) ⌝ }
+        ensures { λ r. ⌜ extend-from-command-view-is self view (now («data» .entry)) (now (room .entry)) r (now (room .exit)) ⌝ }
     {
         let held = self.len;
         let n = data.len();
         if room.len() < held {
-            return refused(view, held);
+            return refused_extension(view, held);
         }
         if room.len() - held < n {
-            return refused(view, held);
+            return refused_extension(view, held);
         }
         bytes::copy(data, &mut room[held..]);
         Extended {
@@ -96,9 +99,9 @@ impl Command {
     }
 }
 
-// The new command does not fit: the held data stay.
-fn refused(view: CommandView, held: usize) -> Extended
-    ensures { λ r. ⌜ r ≡ refusedOf view held ⌝ }
+// The new data do not fit: header, expected length and flag are the new ones, the held data stay (rule 1.26).
+fn refused_extension(view: CommandView, held: usize) -> Extended
+    ensures { λ r. ⌜ r ≡ refusedExtension view held ⌝ }
 {
     Extended {
         answer: Extending::Refused(18),

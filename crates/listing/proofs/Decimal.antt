@@ -1,4 +1,4 @@
--- Laws of a number in decimal digits. Assumes nothing.
+-- Laws of a number in decimal digits.
 use Prim.Native.Nat.{ℕ, zero, suc, _+_, _*_, _/_, _%_, _≤_, _<_}
 use mathlib.Core.Path.{_≡_, ap, _∙_}
 use mathlib.Core.Bool.{cond}
@@ -10,7 +10,7 @@ use lib.ListN.{length, length-append}
 use borrow.Author.Tests.{lt-ltb, le-ltb}
 use Rattle.listing.specs.Text.{hexDigit, digits, decimal}
 
--- any bound above the number serves
+-- any count of digits above the number is enough
 enough : (k m n : ℕ) → n < k → n < m → digits k n ≡ digits m n
 unfolding digits
 enough zero m n h g = absurd (omega arith)

@@ -1,4 +1,4 @@
--- How long the text is at most: 13 bytes for each byte of the input, since every number in it is below 100,000. Assumes nothing.
+-- How long a text is at most: 13 bytes for each byte of the input, since every number in it is below 100,000.
 use Prim.Native.Nat.{ℕ, zero, suc, _+_, _*_, _/_, _%_, _≤_, _<_}
 use Prim.Native.String.{String}
 use mathlib.Core.Path.{_≡_, refl}
@@ -10,8 +10,8 @@ use lib.ListN.{length, getD, take, drop, length-append, length-take, length-drop
 use borrow.Author.Tests.{leb-true, eqb-true}
 use Rattle.basis.specs.Every.{Every}
 use Rattle.basis.specs.Number.{Bytes}
-use Rattle.basis.specs.Reply.{Reply, is, no}
-use Rattle.basis.proofs.Truth.{both}
+use Rattle.basis.specs.Reply.{Reply, ok, refused}
+use Rattle.basis.proofs.Truth.{both-true}
 use Rattle.class.specs.declared.Reading.the-variants as class-reading
 use Rattle.command.specs.Command.{parse}
 use Rattle.command.specs.declared.CommandView.{CommandView}
@@ -22,25 +22,25 @@ use Rattle.tlv.proofs.Walk.{by-objects}
 use Rattle.listing.specs.declared.lines.Section.{Section}
 use Rattle.listing.specs.declared.lines.Section.the-variants.{Commands, Records}
 use Rattle.listing.specs.Ascii.{ascii}
-use Rattle.listing.specs.Input.{pair, items, itemsSize, itemsAt, sectionSize, formed}
-use Rattle.listing.specs.Text.{decimal, hex, piece, mark, filled, line, headLine}
-use Rattle.listing.specs.Text.{viewNumbers, viewLine, commandLine, objectLine, itemText, itemsText, sectionText, textOf}
+use Rattle.listing.specs.Input.{pair, items, itemsSize, itemsAt, sectionSize, wellFormed}
+use Rattle.listing.specs.Text.{decimal, hex, formText, takesNumber, filled, line, headLine}
+use Rattle.listing.specs.Text.{lineNumbers, viewLine, commandLine, objectLine, itemText, itemsText, sectionText, textOf}
 use Rattle.listing.proofs.Decimal.{at-most-five}
-use Rattle.listing.proofs.Sections.{as-many, twice, bytes-drop, bytes-take}
-use Rattle.listing.proofs.Small.{le-few, command-no, object-no}
-use Rattle.listing.proofs.Walking.{linesFrom, lines-first, lines-stop, lines-next}
+use Rattle.listing.proofs.Sections.{items-counted, items-size-least, bytes-drop, bytes-take}
+use Rattle.listing.proofs.SmallNumbers.{le-few, command-refusal-small, object-refusal-small}
+use Rattle.listing.proofs.LineLaws.{linesFrom, lines-first, lines-stop, lines-next}
 
 few-cond : (b : Bool) (x y : List ℕ) (m : ℕ) → length x ≤ m → length y ≤ m → length (cond b x y) ≤ m
 few-cond true x y m h g = h
 few-cond false x y m h g = g
 
--- a form: at most five digits for % where its numbers are below 100,000, two for #
+-- a form: at most five digits for % if its numbers are below 100,000, two for #
 abbrev Below : ℕ → Type 0
 Below n = n < 100000
 
 abbrev decimals : List ℕ → List ℕ → List ℕ
 decimals [] ns = []
-decimals (c ∷ form) ns = cond (eqb c 37) (getD ns 0 0 ∷ []) [] ++ decimals form (drop (mark c) ns)
+decimals (c ∷ form) ns = cond (eqb c 37) (getD ns 0 0 ∷ []) [] ++ decimals form (drop (takesNumber c) ns)
 
 abbrev mostOf : List ℕ → ℕ
 mostOf [] = 0
@@ -57,7 +57,7 @@ module _ (c n : ℕ) (form ns : List ℕ) (deeper : (ms : List ℕ) → Every Be
   filled-by false false h = omega (arith, deeper ns h)
 
 filled-few : (form ns : List ℕ) → Every Below (decimals form ns) → length (filled form ns) ≤ mostOf form
-unfolding filled piece mark
+unfolding filled formText takesNumber
 filled-few [] ns h = omega arith
 filled-few (c ∷ form) ns h = filled-by c (getD ns 0 0) form ns (filled-few form) (eqb c 37) (eqb c 35) h
 
@@ -67,22 +67,22 @@ line-few form ns h = filled-few (ascii form) ns h
 -- the line of a command
 module _ (k : ℕ) (h : k < 100000) (s : List ℕ) (b : Bytes s) (few : length s ≤ 60000) where
   view-few : (x : Bool) (v : CommandView) → v .len < 100000 → v .le < 100000
-      → length (line (cond x "% # # # # lc % le % extended\n" "% # # # # lc % le % short\n") (viewNumbers k v)) ≤ 45
-  unfolding mark
-  view-few true v g f = line-few "% # # # # lc % le % extended\n" (viewNumbers k v) (h, (g, (f, tt)))
+      → length (line (cond x "% # # # # lc % le % extended\n" "% # # # # lc % le % short\n") (lineNumbers k v)) ≤ 45
+  unfolding takesNumber
+  view-few true v g f = line-few "% # # # # lc % le % extended\n" (lineNumbers k v) (h, (g, (f, tt)))
   view-few false v g f =
-      let l : length (line "% # # # # lc % le % short\n" (viewNumbers k v)) ≤ 42 =
-      line-few "% # # # # lc % le % short\n" (viewNumbers k v) (h, (g, (f, tt))) in
+      let l : length (line "% # # # # lc % le % short\n" (lineNumbers k v)) ≤ 42 =
+      line-few "% # # # # lc % le % short\n" (lineNumbers k v) (h, (g, (f, tt))) in
       omega arith
 
   command-by : (x : Reply CommandView) → parse class-reading.Crate s ≡ x → length (viewLine k x) ≤ 26 + 13 * length s
-  unfolding mark
-  command-by (is v) e =
+  unfolding takesNumber
+  command-by (ok v) e =
       let w = within class-reading.Crate s v e in
-      omega (arith, w .behind, w .inside, view-few (v .extended) v (omega (arith, w .inside)) (omega (arith, le-few s b v e)))
-  command-by (no r) e =
+      omega (arith, w .after-header, w .inside, view-few (v .extended) v (omega (arith, w .inside)) (omega (arith, le-few s b v e)))
+  command-by (refused r) e =
       let l : length (line "% refused %\n" (k ∷ r ∷ [])) ≤ 20 =
-      line-few "% refused %\n" (k ∷ r ∷ []) (h, (omega (arith, command-no s r e), tt)) in
+      line-few "% refused %\n" (k ∷ r ∷ []) (h, (omega (arith, command-refusal-small s r e), tt)) in
       omega arith
 
   command-few : length (commandLine k s) ≤ 26 + 13 * length s
@@ -92,7 +92,7 @@ module _ (k : ℕ) (h : k < 100000) (s : List ℕ) (b : Bytes s) (few : length s
 -- the lines of a record: an object takes two bytes or more
 module _ (k : ℕ) (h : k < 100000) where
   object-few : (j t n : ℕ) → j < 100000 → n < 100000 → length (objectLine k j t n) ≤ 25
-  unfolding objectLine mark
+  unfolding objectLine takesNumber
   object-few j t n g f =
       let one : length (line "%.% # %\n" (k ∷ j ∷ t ∷ n ∷ [])) ≤ 21 = line-few "%.% # %\n" (k ∷ j ∷ t ∷ n ∷ []) (h, (g, (f, tt))) in
       let two : length (line "%.% ## %\n" (k ∷ j ∷ t / 256 ∷ t ∷ n ∷ [])) ≤ 23 =
@@ -101,13 +101,13 @@ module _ (k : ℕ) (h : k < 100000) where
       (few-cond (ltb t 65536) _ _ 25 (omega arith) (line-few "%.% ### %\n" (k ∷ j ∷ t / 65536 ∷ t / 256 ∷ t ∷ n ∷ []) (h, (g, (f, tt)))))
 
   stop-few : (j r : ℕ) → j < 100000 → r < 256 → length (cond (eqb r 11) [] (line "%.% refused %\n" (k ∷ j ∷ r ∷ []))) ≤ 26
-  unfolding mark
+  unfolding takesNumber
   stop-few j r g f = few-cond (eqb r 11) _ _ 26 (omega arith) (line-few "%.% refused %\n" (k ∷ j ∷ r ∷ []) (h, (g, (omega (arith, f), tt))))
 
   objects-few : (a : ℕ) (s : List ℕ) (j : ℕ) → j + length s < 100000 → length (linesFrom k j a s) ≤ 26 + 13 * length s
   objects-few =
       by-objects Crate (λ a s. (j : ℕ) → j + length s < 100000 → length (linesFrom k j a s) ≤ 26 + 13 * length s)
-      (λ a s r e j g. rw (lines-stop k j a s r e) (omega (arith, stop-few j r (omega (arith, g)) (object-no s r e))))
+      (λ a s r e j g. rw (lines-stop k j a s r e) (omega (arith, stop-few j r (omega (arith, g)) (object-refusal-small s r e))))
       (λ a s o e w deeper j g.
       let rest = linesFrom k (j + 1) (a + sizeOf o) (drop (sizeOf o) s) in
       let few = deeper (j + 1) (omega (arith, g, w, length-drop (sizeOf o) s)) in
@@ -139,7 +139,7 @@ items-few x k (suc n) s h b l =
     omega (arith, length-append (itemText x k item) (itemsText x (k + 1) (items n (drop (2 + pair s) s))), here, m, there)
 
 head-few : (x : Section) (n : ℕ) → n < 100000 → length (headLine x n) ≤ 15
-unfolding mark
+unfolding takesNumber
 head-few Commands n h = line-few "commands %\n" (n ∷ []) (h, tt)
 head-few Records n h = let l : length (headLine Records n) ≤ 14 = line-few "records %\n" (n ∷ []) (h, tt) in omega arith
 
@@ -148,9 +148,9 @@ section-few : (x : Section) (s : List ℕ) → Bytes s → length s ≤ 60000 �
 unfolding sectionText sectionSize itemsAt
 section-few x s b l h =
     let n = pair s in
-    let t = twice n (drop 2 s) in
+    let t = items-size-least n (drop 2 s) in
     let i = items-few x 1 n (drop 2 s) (omega (arith, t, h)) (bytes-drop 2 s b) (omega (arith, l, length-drop 2 s)) in
-    rw (as-many n (drop 2 s)) (omega (
+    rw (items-counted n (drop 2 s)) (omega (
       arith,
       length-append (headLine x n) (itemsText x 1 (items n (drop 2 s))),
       head-few x n (omega (arith, t, h)),
@@ -158,15 +158,15 @@ section-few x s b l h =
     ))
 
 -- what a well-formed input is, in numbers
-pub formed-is : (s : List ℕ) → formed s ≡ true → (length s ≤ 60000) × (sectionSize s + sectionSize (drop (sectionSize s) s) ≡ length s)
-unfolding formed
+pub formed-is : (s : List ℕ) → wellFormed s ≡ true → (length s ≤ 60000) × (sectionSize s + sectionSize (drop (sectionSize s) s) ≡ length s)
+unfolding wellFormed
 formed-is s e =
-    let p = both (leb (length s) 60000) (eqb (sectionSize s + sectionSize (drop (sectionSize s) s)) (length s)) e in
+    let p = both-true (leb (length s) 60000) (eqb (sectionSize s + sectionSize (drop (sectionSize s) s)) (length s)) e in
     (leb-true (length s) 60000 (p .0), eqb-true (sectionSize s + sectionSize (drop (sectionSize s) s)) (length s) (p .1))
 
 -- every text fits in 780,000 bytes; that of a well-formed input is at most 13 times as long as the input
 module _ (s : List ℕ) (b : Bytes s) where
-  both-few : formed s ≡ true → length (sectionText Commands (itemsAt s) ++ sectionText Records (itemsAt (drop (sectionSize s) s))) ≤ 13 * length s
+  both-few : wellFormed s ≡ true → length (sectionText Commands (itemsAt s) ++ sectionText Records (itemsAt (drop (sectionSize s) s))) ≤ 13 * length s
   both-few e =
       let f = formed-is s e in
       let m = sectionSize s in
@@ -178,13 +178,13 @@ module _ (s : List ℕ) (b : Bytes s) where
         f,
       )
 
-  text-by : (x : Bool) → formed s ≡ x
+  text-by : (x : Bool) → wellFormed s ≡ x
       → length (cond x (sectionText Commands (itemsAt s) ++ sectionText Records (itemsAt (drop (sectionSize s) s))) (line "refused %\n" (20 ∷ [])))
       ≤ 780000
-  unfolding mark
+  unfolding takesNumber
   text-by true e = omega (arith, both-few e, formed-is s e)
   text-by false e = let h : length (line "refused %\n" (20 ∷ [])) ≤ 14 = line-few "refused %\n" (20 ∷ []) (omega arith, tt) in omega arith
 
   pub text-few : length (textOf s) ≤ 780000
   unfolding textOf
-  text-few = text-by (formed s) refl
+  text-few = text-by (wellFormed s) refl

@@ -1,4 +1,4 @@
--- Laws of the input's sections. Assumes nothing.
+-- Laws of the sections of the input.
 use Prim.Native.Nat.{ℕ, zero, suc, _+_, _-_, _*_, _≤_}
 use mathlib.Core.Path.{_≡_, refl, sym, ap, _∙_}
 use mathlib.Core.List.{List, [], _∷_}
@@ -26,22 +26,22 @@ unfolding items
 items-none s zero h = refl
 items-none s (suc left) h = absurd (omega arith)
 
--- an item of n bytes at a place, and those behind it
+-- an item of n bytes at a place, and those after it
 module _ (s : List ℕ) (at n : ℕ) (e : n ≡ pair (drop at s)) where
-  far : drop (2 + pair (drop at s)) (drop at s) ≡ drop (at + 2 + n) s
-  far = rw e (drop-drop (2 + pair (drop at s)) at s ∙ ap (λ (i : ℕ). drop i s) (sym (add-assoc at 2 (pair (drop at s)))))
+  after-item : drop (2 + pair (drop at s)) (drop at s) ≡ drop (at + 2 + n) s
+  after-item = rw e (drop-drop (2 + pair (drop at s)) at s ∙ ap (λ (i : ℕ). drop i s) (sym (add-assoc at 2 (pair (drop at s)))))
 
   pub size-next : (left : ℕ) → (left ≡ 0 → ⊥) → at + itemsSize left (drop at s) ≡ at + 2 + n + itemsSize (left - 1) (drop (at + 2 + n) s)
   unfolding itemsSize
   size-next zero h = absurd (h refl)
-  size-next (suc left) h = let z : suc left - 1 ≡ left = omega arith in rw (far, z) (omega arith)
+  size-next (suc left) h = let z : suc left - 1 ≡ left = omega arith in rw (after-item, z) (omega arith)
 
   pub items-next : (left : ℕ) → (left ≡ 0 → ⊥)
       → items left (drop at s) ≡ take (at + 2 + n - (at + 2)) (drop (at + 2) s) ∷ items (left - 1) (drop (at + 2 + n) s)
   unfolding items
   items-next zero h = absurd (h refl)
   items-next (suc left) h =
-      let z : suc left - 1 ≡ left = omega arith in rw (far, z, add-sub-cancel-left (at + 2) n, e, drop-drop 2 at s)
+      let z : suc left - 1 ≡ left = omega arith in rw (after-item, z, add-sub-cancel-left (at + 2) n, e, drop-drop 2 at s)
 
 -- a section at a place: its count n, its items, of which there are as many as the count says, and its size
 module _ (s : List ℕ) (at n : ℕ) (e : n ≡ pair (drop at s)) where
@@ -53,16 +53,16 @@ module _ (s : List ℕ) (at n : ℕ) (e : n ≡ pair (drop at s)) where
   unfolding itemsAt
   items-are = rw (e, drop-drop 2 at s)
 
-pub as-many : (n : ℕ) (s : List ℕ) → length (items n s) ≡ n
+pub items-counted : (n : ℕ) (s : List ℕ) → length (items n s) ≡ n
 unfolding items
-as-many zero s = refl
-as-many (suc n) s = ap suc (as-many n (drop (2 + pair s) s))
+items-counted zero s = refl
+items-counted (suc n) s = ap suc (items-counted n (drop (2 + pair s) s))
 
 -- each item takes the two bytes of its length
-pub twice : (n : ℕ) (s : List ℕ) → 2 * n ≤ itemsSize n s
+pub items-size-least : (n : ℕ) (s : List ℕ) → 2 * n ≤ itemsSize n s
 unfolding itemsSize
-twice zero s = omega arith
-twice (suc n) s = omega (arith, twice n (drop (2 + pair s) s))
+items-size-least zero s = omega arith
+items-size-least (suc n) s = omega (arith, items-size-least n (drop (2 + pair s) s))
 
 -- parts of bytes are bytes
 pub bytes-drop : (n : ℕ) (s : List ℕ) → Bytes s → Bytes (drop n s)

@@ -1,11 +1,11 @@
-// The lines of commands and records.
+// The lines of commands and records (rules 10.3 to 10.8).
 ghost use mathlib.Core.Path.{_≡_};
 ghost use Prim.Native.Nat.{_+_, _≤_, _<_};
 ghost use lib.ListN.{length, drop};
 ghost use Rattle.listing.specs.Input.{items, itemsSize, itemsAt, sectionSize};
-ghost use Rattle.listing.specs.Text.{Puts, viewNumbers, commandLine, objectLine, objectLines, itemText, itemsText, headLine, sectionText};
+ghost use Rattle.listing.specs.Text.{Puts, lineNumbers, commandLine, objectLine, objectLines, itemText, itemsText, headLine, sectionText};
+use crate::input::byte_number;
 use crate::input::pair_at;
-use crate::input::wide;
 use crate::text::fill;
 use class::Reading;
 use command::CommandView;
@@ -20,30 +20,30 @@ pub enum Section {
 }
 
 // The numbers in the line of a command.
-fn view_numbers(k: usize, view: CommandView) -> [usize; 7]
-    ensures { λ r. ⌜ r ≡ viewNumbers k view ⌝ }
+fn line_numbers(k: usize, view: CommandView) -> [usize; 7]
+    ensures { λ r. ⌜ r ≡ lineNumbers k view ⌝ }
 {
     let class = view.class;
     [
         k,
-        wide(class.into_inner()),
-        wide(view.instruction),
-        wide(view.p1),
-        wide(view.p2),
+        byte_number(class.into_inner()),
+        byte_number(view.instruction),
+        byte_number(view.p1),
+        byte_number(view.p2),
         view.len,
         view.le,
     ]
 }
 
-// The line of a command.
+// Writes the line of command k, which is parsed in the crate reading (rule 10.4).
 fn command_line(out: &mut [u8], at: usize, k: usize, apdu: &[u8]) -> usize
     requires { ⌜ at + length (commandLine k (now apdu)) ≤ length (now out) ⌝ }
     ensures { λ r. ⌜ Puts (commandLine k (now (apdu .entry))) at (now (out .entry)) r (now (out .exit)) ⌝ }
 {
     match CommandView::try_from(Reading::Crate, apdu) {
-        Parsed::Refused(r) => fill(out, at, b"% refused %\n", &[k, wide(r)]),
+        Parsed::Refused(r) => fill(out, at, b"% refused %\n", &[k, byte_number(r)]),
         Parsed::View(view) => {
-            let numbers = view_numbers(k, view);
+            let numbers = line_numbers(k, view);
             if view.extended {
                 return fill(out, at, b"% # # # # lc % le % extended\n", &numbers);
             }
@@ -52,7 +52,7 @@ fn command_line(out: &mut [u8], at: usize, k: usize, apdu: &[u8]) -> usize
     }
 }
 
-// The line of an object.
+// Writes the line of object j of record k: its tag in one byte, two or three, and its length (rule 10.5).
 fn object_line(out: &mut [u8], at: usize, k: usize, j: usize, tag: u32, len: usize) -> usize
     requires { ⌜ at + length (objectLine k j tag len) ≤ length (now out) ⌝ }
     ensures { λ r. ⌜ Puts (objectLine k j tag len) at (now (out .entry)) r (now (out .exit)) ⌝ }
@@ -67,7 +67,8 @@ fn object_line(out: &mut [u8], at: usize, k: usize, j: usize, tag: u32, len: usi
     fill(out, at, b"%.% ### %\n", &[k, j, t / 65536, t / 256, t, len])
 }
 
-// The lines of a record.
+// Writes the lines of record k: its objects of the top level, in the crate reading (rule 10.6). The record stops at its
+// first refusal: 12 is its last line (rule 10.7), 11 prints nothing (rule 10.8).
 fn put_objects(out: &mut [u8], start: usize, k: usize, record: &[u8]) -> usize
     requires { ⌜ start + length (objectLines k (now «record»)) ≤ length (now out) ⌝ }
     ensures { λ r. ⌜ Puts (objectLines k (now («record» .entry))) start (now (out .entry)) r (now (out .exit)) ⌝ }
@@ -92,7 +93,7 @@ fn put_objects(out: &mut [u8], start: usize, k: usize, record: &[u8]) -> usize
     }
 }
 
-// The line or lines of an item.
+// Writes the line or the lines of item k of a section.
 fn put_item(out: &mut [u8], at: usize, section: Section, k: usize, item: &[u8]) -> usize
     requires { ⌜ at + length (itemText section k (now item)) ≤ length (now out) ⌝ }
     ensures { λ r. ⌜ Puts (itemText section k (now (item .entry))) at (now (out .entry)) r (now (out .exit)) ⌝ }
@@ -103,7 +104,7 @@ fn put_item(out: &mut [u8], at: usize, section: Section, k: usize, item: &[u8]) 
     }
 }
 
-// The lines of so many items from a place of the input on.
+// Writes the lines of `count` items that begin at a place of the input, numbered from 1 (rule 10.3).
 fn put_items(
     out: &mut [u8],
     start: usize,
@@ -131,7 +132,7 @@ fn put_items(
     place
 }
 
-// The first line of a section.
+// Writes the first line of a section: its word and its count (rule 10.3).
 fn put_head(out: &mut [u8], at: usize, section: Section, n: usize) -> usize
     requires { ⌜ at + length (headLine section n) ≤ length (now out) ⌝ }
     ensures { λ r. ⌜ Puts (headLine section n) at (now (out .entry)) r (now (out .exit)) ⌝ }
@@ -142,7 +143,7 @@ fn put_head(out: &mut [u8], at: usize, section: Section, n: usize) -> usize
     }
 }
 
-// The text of the section at a place of the input.
+// Writes the text of the section that begins at a place of the input.
 pub(crate) fn put_section(
     out: &mut [u8],
     at: usize,
@@ -155,6 +156,6 @@ pub(crate) fn put_section(
     ensures { λ r. ⌜ Puts (sectionText section (itemsAt (drop from (now (input .entry))))) at (now (out .entry)) r (now (out .exit)) ⌝ }
 {
     let n = pair_at(input, from);
-    let behind = put_head(out, at, section, n);
-    put_items(out, behind, section, input, from + 2, n)
+    let end = put_head(out, at, section, n);
+    put_items(out, end, section, input, from + 2, n)
 }

@@ -1,4 +1,5 @@
--- The listed inputs are exactly those that two sections are written out as, and their items are those. Assumes nothing.
+-- The inputs that are listed are exactly those that two sections are written out as, with these items. Rules 10.1 and
+-- 10.2.
 use Prim.Native.Nat.{ℕ, zero, suc, _+_, _*_, _/_, _%_, _≤_, _<_}
 use mathlib.Core.Path.{_≡_, refl, sym, ap, _∙_}
 use mathlib.Core.Bool.{Bool, true, false, cond}
@@ -10,14 +11,14 @@ use borrow.Author.Tests.{le-leb, eq-eqb}
 use Rattle.basis.specs.Number.{Bytes, be}
 use Rattle.basis.proofs.Number.{length-be}
 use Rattle.listing.specs.Ascii.{ascii}
-use Rattle.listing.specs.Input.{pair, items, itemsSize, itemsAt, sectionSize, formed}
-use Rattle.listing.specs.Text.{hexDigit, digits, decimal, piece, mark, filled, line, sectionText, textOf}
+use Rattle.listing.specs.Input.{pair, items, itemsSize, itemsAt, sectionSize, wellFormed}
+use Rattle.listing.specs.Text.{hexDigit, digits, decimal, formText, takesNumber, filled, line, sectionText, textOf}
 use Rattle.listing.specs.declared.lines.Section.the-variants.{Commands, Records}
 use Rattle.listing.proofs.Longest.{formed-is}
-use Rattle.listing.proofs.Sections.{as-many, bytes-drop}
+use Rattle.listing.proofs.Sections.{items-counted, bytes-drop}
 use Rattle.listing_laws.specs.Encoded.{itemsBytes, sectionBytes, inputBytes}
 
--- two bytes of a number in front of others
+-- the two bytes of a number, and others after them
 pair-be : (n : ℕ) (l : List ℕ) → n < 65536 → pair (be 2 n ++ l) ≡ n
 unfolding pair be
 pair-be n l h = omega arith
@@ -26,27 +27,27 @@ drop-be : (n : ℕ) (l : List ℕ) → drop 2 (be 2 n ++ l) ≡ l
 unfolding be
 drop-be n l = refl
 
--- an item at the front, whose length stands in front of it
+-- an item at the front, after its length
 module _ (s x l : List ℕ) (e : pair s ≡ length x) (f : drop 2 s ≡ x ++ l) where
-  here : take (pair s) (drop 2 s) ≡ x
-  here = ap (λ (r : List ℕ). take (pair s) r) f ∙ take-at x l (pair s) (sym e)
+  first-item : take (pair s) (drop 2 s) ≡ x
+  first-item = ap (λ (r : List ℕ). take (pair s) r) f ∙ take-at x l (pair s) (sym e)
 
-  behind : drop (2 + pair s) s ≡ l
-  behind = sym (drop-drop (pair s) 2 s) ∙ ap (λ (r : List ℕ). drop (pair s) r) f ∙ drop-at x l (pair s) (sym e)
+  after-item : drop (2 + pair s) s ≡ l
+  after-item = sym (drop-drop (pair s) 2 s) ∙ ap (λ (r : List ℕ). drop (pair s) r) f ∙ drop-at x l (pair s) (sym e)
 
   one-item : (k : ℕ) → items (suc k) s ≡ x ∷ items k l
   unfolding items
-  one-item k = rw (here, behind)
+  one-item k = rw (first-item, after-item)
 
   one-size : (k : ℕ) → itemsSize (suc k) s ≡ 2 + length x + itemsSize k l
   unfolding itemsSize
-  one-size k = rw (behind, e)
+  one-size k = rw (after-item, e)
 
--- items that were written are read
+-- items that are written out are read back
 module _ (l : List ℕ) where
-  long : (x : List ℕ) (xs : List (List ℕ)) → length (itemsBytes (x ∷ xs)) ≡ 2 + length x + length (itemsBytes xs)
+  items-length : (x : List ℕ) (xs : List (List ℕ)) → length (itemsBytes (x ∷ xs)) ≡ 2 + length x + length (itemsBytes xs)
   unfolding itemsBytes
-  long x xs =
+  items-length x xs =
       omega (
         arith,
         length-append (be 2 (length x)) (x ++ itemsBytes xs),
@@ -57,7 +58,7 @@ module _ (l : List ℕ) where
   item-pair : (x : List ℕ) (xs : List (List ℕ)) → length (itemsBytes (x ∷ xs)) < 65536 → pair (itemsBytes (x ∷ xs) ++ l) ≡ length x
   unfolding itemsBytes
   item-pair x xs h =
-      ap pair (append-assoc (be 2 (length x)) (x ++ itemsBytes xs) l) ∙ pair-be (length x) ((x ++ itemsBytes xs) ++ l) (omega (arith, h, long x xs))
+      ap pair (append-assoc (be 2 (length x)) (x ++ itemsBytes xs) l) ∙ pair-be (length x) ((x ++ itemsBytes xs) ++ l) (omega (arith, h, items-length x xs))
 
   item-rest : (x : List ℕ) (xs : List (List ℕ)) → drop 2 (itemsBytes (x ∷ xs) ++ l) ≡ x ++ (itemsBytes xs ++ l)
   unfolding itemsBytes
@@ -65,25 +66,25 @@ module _ (l : List ℕ) where
       ap (λ (r : List ℕ). drop 2 r) (append-assoc (be 2 (length x)) (x ++ itemsBytes xs) l)
       ∙ drop-be (length x) ((x ++ itemsBytes xs) ++ l) ∙ append-assoc x (itemsBytes xs) l
 
-  read : (xs : List (List ℕ)) → length (itemsBytes xs) < 65536 → items (length xs) (itemsBytes xs ++ l) ≡ xs
+  items-read : (xs : List (List ℕ)) → length (itemsBytes xs) < 65536 → items (length xs) (itemsBytes xs ++ l) ≡ xs
   unfolding items
-  read [] h = refl
-  read (x ∷ xs) h =
+  items-read [] h = refl
+  items-read (x ∷ xs) h =
       one-item (itemsBytes (x ∷ xs) ++ l) x (itemsBytes xs ++ l) (item-pair x xs h) (item-rest x xs) (length xs)
-      ∙ ap (λ (r : List (List ℕ)). x ∷ r) (read xs (omega (arith, h, long x xs)))
+      ∙ ap (λ (r : List (List ℕ)). x ∷ r) (items-read xs (omega (arith, h, items-length x xs)))
 
-  size : (xs : List (List ℕ)) → length (itemsBytes xs) < 65536 → itemsSize (length xs) (itemsBytes xs ++ l) ≡ length (itemsBytes xs)
+  items-size : (xs : List (List ℕ)) → length (itemsBytes xs) < 65536 → itemsSize (length xs) (itemsBytes xs ++ l) ≡ length (itemsBytes xs)
   unfolding itemsSize itemsBytes
-  size [] h = refl
-  size (x ∷ xs) h =
+  items-size [] h = refl
+  items-size (x ∷ xs) h =
       one-size (itemsBytes (x ∷ xs) ++ l) x (itemsBytes xs ++ l) (item-pair x xs h) (item-rest x xs) (length xs)
-      ∙ omega (arith, size xs (omega (arith, h, long x xs)), long x xs)
+      ∙ omega (arith, items-size xs (omega (arith, h, items-length x xs)), items-length x xs)
 
-  many : (xs : List (List ℕ)) → 2 * length xs ≤ length (itemsBytes xs)
-  many [] = omega arith
-  many (x ∷ xs) = omega (arith, many xs, long x xs)
+  items-size-least : (xs : List (List ℕ)) → 2 * length xs ≤ length (itemsBytes xs)
+  items-size-least [] = omega arith
+  items-size-least (x ∷ xs) = omega (arith, items-size-least xs, items-length x xs)
 
--- so is a section
+-- so are the items of a section
 module _ (xs : List (List ℕ)) (l : List ℕ) (h : length (sectionBytes xs) ≤ 60000) where
   section-long : length (sectionBytes xs) ≡ 2 + length (itemsBytes xs)
   unfolding sectionBytes
@@ -93,7 +94,7 @@ module _ (xs : List (List ℕ)) (l : List ℕ) (h : length (sectionBytes xs) ≤
   unfolding sectionBytes
   count =
       ap pair (append-assoc (be 2 (length xs)) (itemsBytes xs) l)
-      ∙ pair-be (length xs) (itemsBytes xs ++ l) (omega (arith, h, section-long, many l xs))
+      ∙ pair-be (length xs) (itemsBytes xs ++ l) (omega (arith, h, section-long, items-size-least l xs))
 
   rest : drop 2 (sectionBytes xs ++ l) ≡ itemsBytes xs ++ l
   unfolding sectionBytes
@@ -101,47 +102,47 @@ module _ (xs : List (List ℕ)) (l : List ℕ) (h : length (sectionBytes xs) ≤
 
   section-items : itemsAt (sectionBytes xs ++ l) ≡ xs
   unfolding itemsAt
-  section-items = rw (count, rest) (read l xs (omega (arith, h, section-long)))
+  section-items = rw (count, rest) (items-read l xs (omega (arith, h, section-long)))
 
   section-size : sectionSize (sectionBytes xs ++ l) ≡ length (sectionBytes xs)
   unfolding sectionSize
-  section-size = rw (count, rest) (omega (arith, size l xs (omega (arith, h, section-long)), section-long))
+  section-size = rw (count, rest) (omega (arith, items-size l xs (omega (arith, h, section-long)), section-long))
 
-  section-behind : drop (sectionSize (sectionBytes xs ++ l)) (sectionBytes xs ++ l) ≡ l
-  section-behind = drop-at (sectionBytes xs) l (sectionSize (sectionBytes xs ++ l)) (sym section-size)
+  section-after : drop (sectionSize (sectionBytes xs ++ l)) (sectionBytes xs ++ l) ≡ l
+  section-after = drop-at (sectionBytes xs) l (sectionSize (sectionBytes xs ++ l)) (sym section-size)
 
 -- an input that two sections are written out as: its items, its form and its text
 module _ (cs rs : List (List ℕ)) (h : length (inputBytes cs rs) ≤ 60000) where
   both-long : length (inputBytes cs rs) ≡ length (sectionBytes cs) + length (sectionBytes rs)
   both-long = length-append (sectionBytes cs) (sectionBytes rs)
 
-  behind-first : drop (sectionSize (inputBytes cs rs)) (inputBytes cs rs) ≡ sectionBytes rs ++ []
-  behind-first = section-behind cs (sectionBytes rs) (omega (arith, h, both-long)) ∙ sym (append-nil (sectionBytes rs))
+  after-first : drop (sectionSize (inputBytes cs rs)) (inputBytes cs rs) ≡ sectionBytes rs ++ []
+  after-first = section-after cs (sectionBytes rs) (omega (arith, h, both-long)) ∙ sym (append-nil (sectionBytes rs))
 
   pub commands-read : itemsAt (inputBytes cs rs) ≡ cs
   commands-read = section-items cs (sectionBytes rs) (omega (arith, h, both-long))
 
   pub records-read : itemsAt (drop (sectionSize (inputBytes cs rs)) (inputBytes cs rs)) ≡ rs
-  records-read = ap itemsAt behind-first ∙ section-items rs [] (omega (arith, h, both-long))
+  records-read = ap itemsAt after-first ∙ section-items rs [] (omega (arith, h, both-long))
 
   sizes : sectionSize (inputBytes cs rs) + sectionSize (drop (sectionSize (inputBytes cs rs)) (inputBytes cs rs)) ≡ length (inputBytes cs rs)
   sizes =
       omega (
         arith,
         section-size cs (sectionBytes rs) (omega (arith, h, both-long)),
-        ap sectionSize behind-first ∙ section-size rs [] (omega (arith, h, both-long)),
+        ap sectionSize after-first ∙ section-size rs [] (omega (arith, h, both-long)),
         both-long,
       )
 
-  pub written-formed : formed (inputBytes cs rs) ≡ true
-  unfolding formed
+  pub written-formed : wellFormed (inputBytes cs rs) ≡ true
+  unfolding wellFormed
   written-formed = rw (le-leb (length (inputBytes cs rs)) 60000 h) (eq-eqb _ _ sizes)
 
   pub text-written : textOf (inputBytes cs rs) ≡ sectionText Commands cs ++ sectionText Records rs
   unfolding textOf
   text-written = rw (written-formed, commands-read, records-read)
 
--- and every well-formed input is one: two bytes, items, a section
+-- and every well-formed input is written out so: two bytes, items, a section
 two-bytes : (s : List ℕ) → Bytes s → 2 ≤ length s → be 2 (pair s) ++ drop 2 s ≡ s
 unfolding be pair
 two-bytes [] b h = absurd (omega arith)
@@ -179,9 +180,9 @@ section-back s b h =
     ∙ ap (λ (r : List ℕ). be 2 (length (items n (drop 2 s))) ++ r)
     (ap (λ (r : List ℕ). itemsBytes (items n (drop 2 s)) ++ r) (sym (drop-drop m 2 s))
     ∙ items-back n (drop 2 s) (bytes-drop 2 s b) (omega (arith, h, length-drop 2 s)))
-    ∙ ap (λ (k : ℕ). be 2 k ++ drop 2 s) (as-many n (drop 2 s)) ∙ two-bytes s b (omega (arith, h))
+    ∙ ap (λ (k : ℕ). be 2 k ++ drop 2 s) (items-counted n (drop 2 s)) ∙ two-bytes s b (omega (arith, h))
 
-pub formed-written : (s : List ℕ) → Bytes s → formed s ≡ true
+pub formed-written : (s : List ℕ) → Bytes s → wellFormed s ≡ true
     → (length s ≤ 60000) × (s ≡ inputBytes (itemsAt s) (itemsAt (drop (sectionSize s) s)))
 formed-written s b e =
     let f = formed-is s e in
@@ -193,13 +194,13 @@ formed-written s b e =
     ∙ section-back t (bytes-drop m s b) (omega (arith, f, length-drop m s)) in
     (f .0, sym (ap (λ (r : List ℕ). sectionBytes (itemsAt s) ++ r) second ∙ section-back s b (omega (arith, f))))
 
--- bytes that no two sections are written out as, or more than 60,000, are refused
+-- bytes that no two sections are written out as, and more than 60,000 bytes, are refused with 20 (rule 10.2)
 pub text-refused : (s : List ℕ) → Bytes s → ((cs rs : List (List ℕ)) → length s ≤ 60000 → s ≡ inputBytes cs rs → ⊥)
     → textOf s ≡ ascii "refused 20\n"
-unfolding textOf filled piece mark decimal digits hexDigit
-text-refused s b h = by (formed s) refl
+unfolding textOf filled formText takesNumber decimal digits hexDigit
+text-refused s b h = by (wellFormed s) refl
   where
-    by : (x : Bool) → formed s ≡ x
+    by : (x : Bool) → wellFormed s ≡ x
         → cond x (sectionText Commands (itemsAt s) ++ sectionText Records (itemsAt (drop (sectionSize s) s))) (line "refused %\n" (20 ∷ []))
         ≡ ascii "refused 20\n"
     by true e = let f = formed-written s b e in absurd (h (itemsAt s) (itemsAt (drop (sectionSize s) s)) (f .0) (f .1))

@@ -1,9 +1,9 @@
--- The tag in an object's line. Document 01, "The listing": its example, where tag 5F24 stands as the record's bytes 5F 24.
+-- The tag in the line of an object (rule 10.5): the bytes 5F 24 of a record are printed as 5F24.
 use Prim.Native.Nat.{ℕ}
 use mathlib.Core.Path.{_≡_}
 use mathlib.Core.List.{List, [], _∷_, _++_}
 use lib.ListN.{take, drop}
-use Rattle.basis.specs.Reply.{is}
+use Rattle.basis.specs.Reply.{ok}
 use Rattle.tlv.specs.Tag.{Tag, tagOf}
 use Rattle.tlv.specs.Walk.{Item}
 use Rattle.tlv.specs.declared.Reading.the-variants.{Crate}
@@ -14,10 +14,10 @@ unfoldable pub hexes : List ℕ → List ℕ
 hexes [] = []
 hexes (b ∷ bs) = hex b ++ hexes bs
 
--- an object of the record s has the tag that is read at its place, and its line, as object j of record k, shows that tag's bytes: all of
--- them, as they stand there, and nothing else
+-- an object of the record s has the tag that is read at its place. Its line, as object j of record k, shows the bytes
+-- of that tag: all of them, as they are in s, and nothing else
 pub record Shown (k j : ℕ) (s : List ℕ) (i : Item) : Type 0 where
   pub tag : Tag
-  pub read : tagOf Crate (drop (i .place) s) ≡ is tag
+  pub read : tagOf Crate (drop (i .place) s) ≡ ok tag
   pub text : objectLine k j (i .tag) (i .len)
       ≡ line "%.% " (k ∷ j ∷ []) ++ (hexes (take (tag .size) (drop (i .place) s)) ++ line " %\n" (i .len ∷ []))

@@ -1,25 +1,25 @@
--- Whether a piece continues a chain, and whether it is the last. Assumes nothing.
+-- Whether a piece continues a chain (rule 5.2), and whether it is the last.
 use mathlib.Core.Path.{_≡_, sym, _∙_}
 use mathlib.Core.Bool.{Bool, true, false}
 use borrow.Author.Tests.{eq-eqb, ne-eqb, eqb-true}
 use lib.Dec.{eqb}
-use Rattle.basis.proofs.Truth.{both}
-use Rattle.class.specs.Chain.{bit, chained, chain-is, not-the-last-is}
+use Rattle.basis.proofs.Truth.{both-true}
+use Rattle.class.specs.Chain.{chainingBit, chained, chain-is, not-the-last-is}
 use Rattle.class.specs.declared.Class.{Class}
 use Rattle.class.specs.declared.chain.Chain.{Chain}
 use Rattle.class.proofs.Bits.{not-the-last-bit}
 use Rattle.command.specs.declared.CommandView.{CommandView}
 use Rattle.reassembler.specs.Join.{sameClass, continuesOpen, SameHeader}
-use Rattle.reassembler.specs.declared.Held.{Held}
+use Rattle.reassembler.specs.declared.OpenChain.{OpenChain}
 
--- classes by their bytes with the bit set
+-- classes are compared by their bytes with bit 0x10 set
 pub same-class : (c d x y : Class) → x ≡ record { cla = chained (c .cla) } → y ≡ record { cla = chained (d .cla) }
     → eqb (x .cla) (y .cla) ≡ sameClass c d
 unfolding sameClass
 same-class c d x y e f = rw (e, f)
 
--- a header by its parts, one after the other
-module _ (h : Held) (v : CommandView) where
+-- a header, field after field
+module _ (h : OpenChain) (v : CommandView) where
   pub not-class : sameClass (h .class) (v .class) ≡ false → false ≡ continuesOpen h v
   unfolding continuesOpen
   not-class e = rw e
@@ -41,7 +41,7 @@ module _ (h : Held) (v : CommandView) where
       pub continues-is : h .p1 ≡ v .p1 → h .p2 ≡ v .p2 → continuesOpen h v ≡ true
       continues-is e f = sym (by-p2 e) ∙ eq-eqb (h .p2) (v .p2) f
 
--- classes that differ in the bit alone
+-- classes that differ in bit 0x10 alone
 pub same-class-is : (c d : Class) → chained (c .cla) ≡ chained (d .cla) → sameClass c d ≡ true
 unfolding sameClass
 same-class-is c d e = eq-eqb (chained (c .cla)) (chained (d .cla)) e
@@ -50,13 +50,13 @@ same-class-true : (c d : Class) → sameClass c d ≡ true → chained (c .cla) 
 unfolding sameClass
 same-class-true c d e = eqb-true (chained (c .cla)) (chained (d .cla)) e
 
--- a piece continues an open chain exactly where it has its header
-pub continues-same : (h : Held) (v : CommandView) → continuesOpen h v ≡ true → SameHeader h v
+-- a piece continues an open chain exactly if it has its header
+pub continues-same : (h : OpenChain) (v : CommandView) → continuesOpen h v ≡ true → SameHeader h v
 unfolding continuesOpen
 continues-same h v e =
-    let c = both (sameClass (h .class) (v .class)) _ e in
-    let i = both (eqb (h .instruction) (v .instruction)) _ (c .1) in
-    let p = both (eqb (h .p1) (v .p1)) _ (i .1) in
+    let c = both-true (sameClass (h .class) (v .class)) _ e in
+    let i = both-true (eqb (h .instruction) (v .instruction)) _ (c .1) in
+    let p = both-true (eqb (h .p1) (v .p1)) _ (i .1) in
     record {
       class = same-class-true (h .class) (v .class) (c .0);
       instruction = eqb-true (h .instruction) (v .instruction) (i .0);
@@ -64,9 +64,9 @@ continues-same h v e =
       p2 = eqb-true (h .p2) (v .p2) (p .1);
     }
 
-pub same-continues : (h : Held) (v : CommandView) → SameHeader h v → continuesOpen h v ≡ true
+pub same-continues : (h : OpenChain) (v : CommandView) → SameHeader h v → continuesOpen h v ≡ true
 same-continues h v s = continues-is h v (same-class-is (h .class) (v .class) (s .class)) (s .instruction) (s .p1) (s .p2)
 
 -- whether the chaining bit is set, from what the class says of it
-pub bit-is : (c : Class) (x : Chain) (y z : Bool) → chain-is c x → not-the-last-is x y → y ≡ z → eqb (bit (c .cla)) 1 ≡ z
-bit-is c x y z e f g = sym (not-the-last-bit c x y e f) ∙ g
+pub chaining-bit-is : (c : Class) (x : Chain) (y z : Bool) → chain-is c x → not-the-last-is x y → y ≡ z → eqb (chainingBit (c .cla)) 1 ≡ z
+chaining-bit-is c x y z e f g = sym (not-the-last-bit c x y e f) ∙ g

@@ -1,35 +1,35 @@
-// The exported functions by the numbers that the file has for them, with the parameters in their order.
+// The calls: each exported function by its number in the file, with its parameters in their order.
 use crate::input::byte;
-use crate::input::less;
+use crate::input::minus_or_zero;
 use crate::input::number;
 use crate::input::numbers;
-use exports_aid::gorvisclen_aid;
-use exports_aid::gorvisclen_aid_matches;
-use exports_aid::gorvisclen_aid_part;
-use exports_aid::gorvisclen_aid_whole;
-use exports_builder::gorvisclen_builder_eq;
-use exports_builder::gorvisclen_force_extended;
-use exports_builder::gorvisclen_required_len;
-use exports_class::gorvisclen_class;
-use exports_class::gorvisclen_class_as_chained;
-use exports_class::gorvisclen_class_constants;
-use exports_class::gorvisclen_range;
-use exports_command::gorvisclen_command;
-use exports_lookup::gorvisclen_get_data_object;
-use exports_owned::gorvisclen_command_data;
-use exports_owned::gorvisclen_command_extend;
-use exports_owned::gorvisclen_command_owned;
-use exports_serialize::gorvisclen_serialize_into;
-use exports_splitter::gorvisclen_new_non_extended;
-use exports_splitter::gorvisclen_should_split;
-use exports_splitter::gorvisclen_write_next;
-use exports_tlv::gorvisclen_take_data_object;
-use exports_tlv::gorvisclen_take_len;
-use exports_tlv::gorvisclen_take_tag;
-use exports_tlv::gorvisclen_value;
-use exports_write::gorvisclen_put_data_object;
+use aid_abi::gorvisclen_aid;
+use aid_abi::gorvisclen_aid_matches;
+use aid_abi::gorvisclen_aid_part;
+use aid_abi::gorvisclen_aid_whole;
+use builder_abi::gorvisclen_builder_eq;
+use builder_abi::gorvisclen_force_extended;
+use builder_abi::gorvisclen_required_len;
+use builder_abi::gorvisclen_serialize_into;
+use class_abi::gorvisclen_class;
+use class_abi::gorvisclen_class_as_chained;
+use class_abi::gorvisclen_class_constants;
+use class_abi::gorvisclen_range;
+use command_abi::gorvisclen_command;
+use command_owned_abi::gorvisclen_command_data;
+use command_owned_abi::gorvisclen_command_extend;
+use command_owned_abi::gorvisclen_command_owned;
+use splitter_abi::gorvisclen_new_non_extended;
+use splitter_abi::gorvisclen_should_split;
+use splitter_abi::gorvisclen_write_next;
+use tlv_abi::gorvisclen_put_data_object;
+use tlv_abi::gorvisclen_take_data_object;
+use tlv_abi::gorvisclen_take_len;
+use tlv_abi::gorvisclen_take_tag;
+use tlv_abi::gorvisclen_value;
+use tlv_lookup_abi::gorvisclen_get_data_object;
 
-// What a builder and a chain are made of, first.
+// The first parameters of a builder and of a command that is cut: header and Le.
 struct Head {
     class: u8,
     instruction: u8,
@@ -38,27 +38,29 @@ struct Head {
     le: u32,
 }
 
-// The next number, of which only the last byte is not 0.
-fn low() -> u8 {
+// The next number, as a byte: only its last byte is not 0.
+fn last_byte() -> u8 {
     number(2);
     byte()
 }
 
-fn start() -> Head {
+// The next numbers, as a header and Le.
+fn next_head() -> Head {
     Head {
-        class: low(),
-        instruction: low(),
-        p1: low(),
-        p2: low(),
+        class: last_byte(),
+        instruction: last_byte(),
+        p1: last_byte(),
+        p2: last_byte(),
         le: number(3) as u32,
     }
 }
 
+// Le as a number of two bytes.
 fn short_le(head: Head) -> u16 {
     (head.le % 0x10000) as u16
 }
 
-// The tags of a path, so many.
+// The first `count` tags, at most all.
 fn path<'a>(tags: &'a [u32; 16], count: usize) -> &'a [u32] {
     let all = &tags[..];
     if count < all.len() {
@@ -67,9 +69,15 @@ fn path<'a>(tags: &'a [u32; 16], count: usize) -> &'a [u32] {
     all
 }
 
-// The operations with a path, of so many tags.
-fn look(operation: u8, count: usize, record: &[u8], to: &mut [u8], out: &mut [u64]) -> u8 {
-    let reading = low();
+// Calls an operation with a path of `count` tags.
+fn call_with_path(
+    operation: u8,
+    count: usize,
+    record: &[u8],
+    to: &mut [u8],
+    out: &mut [u64],
+) -> u8 {
+    let reading = last_byte();
     let mut tags = [0u32; 16];
     numbers(&mut tags, count);
     if operation == 12 {
@@ -78,8 +86,8 @@ fn look(operation: u8, count: usize, record: &[u8], to: &mut [u8], out: &mut [u6
     gorvisclen_value(reading, record, path(&tags, count), to, out)
 }
 
-// Calls an operation with two strings and the next numbers of the file, so many; replies what it replies, or 255 where
-// there is no such operation.
+// Calls an operation with two strings and the next `count` numbers of the file. Returns its reply, or 255 if there is
+// no such operation.
 pub(crate) fn call(
     operation: u8,
     count: usize,
@@ -89,54 +97,80 @@ pub(crate) fn call(
     out: &mut [u64],
 ) -> u8 {
     match operation {
-        1 => gorvisclen_class(low(), out),
-        2 => gorvisclen_class_as_chained(low(), out),
-        3 => gorvisclen_range(low(), out),
+        1 => gorvisclen_class(last_byte(), out),
+        2 => gorvisclen_class_as_chained(last_byte(), out),
+        3 => gorvisclen_range(last_byte(), out),
         4 => gorvisclen_class_constants(out),
         5 => gorvisclen_aid_whole(first, out),
         6 => gorvisclen_aid(first, number(3), out),
         7 => gorvisclen_aid_matches(first, number(3), second, out),
-        8 => gorvisclen_aid_part(first, number(3), low(), to, out),
-        9 => gorvisclen_take_tag(low(), first, out),
-        10 => gorvisclen_take_len(low(), first, out),
-        11 => gorvisclen_take_data_object(low(), first, out),
-        12 | 13 => look(operation, less(count, 1), first, to, out),
-        14 => gorvisclen_put_data_object(low(), low(), low(), first, to, number(3), out),
-        15 => gorvisclen_command(low(), first, out),
-        16 => gorvisclen_command_data(low(), first, to, out),
-        17 => gorvisclen_command_owned(low(), first, to, out),
+        8 => gorvisclen_aid_part(first, number(3), last_byte(), to, out),
+        9 => gorvisclen_take_tag(last_byte(), first, out),
+        10 => gorvisclen_take_len(last_byte(), first, out),
+        11 => gorvisclen_take_data_object(last_byte(), first, out),
+        12 | 13 => call_with_path(operation, minus_or_zero(count, 1), first, to, out),
+        14 => gorvisclen_put_data_object(
+            last_byte(),
+            last_byte(),
+            last_byte(),
+            first,
+            to,
+            number(3),
+            out,
+        ),
+        15 => gorvisclen_command(last_byte(), first, out),
+        16 => gorvisclen_command_data(last_byte(), first, to, out),
+        17 => gorvisclen_command_owned(last_byte(), first, to, out),
         18 => gorvisclen_command_extend(number(3), to, first, out),
         19 => {
-            let h = start();
-            gorvisclen_required_len(h.class, h.instruction, h.p1, h.p2, h.le, low(), first, out)
+            let h = next_head();
+            gorvisclen_required_len(
+                h.class,
+                h.instruction,
+                h.p1,
+                h.p2,
+                h.le,
+                last_byte(),
+                first,
+                out,
+            )
         }
         20 => {
-            let h = start();
-            gorvisclen_force_extended(h.class, h.instruction, h.p1, h.p2, h.le, low(), first, out)
+            let h = next_head();
+            gorvisclen_force_extended(
+                h.class,
+                h.instruction,
+                h.p1,
+                h.p2,
+                h.le,
+                last_byte(),
+                first,
+                out,
+            )
         }
         21 => {
-            let h = start();
+            let h = next_head();
             gorvisclen_builder_eq(
                 h.class,
                 h.instruction,
                 h.p1,
                 h.p2,
                 h.le,
-                low(),
+                last_byte(),
                 first,
                 second,
                 out,
             )
         }
         22 => {
-            let h = start();
+            let h = next_head();
             gorvisclen_serialize_into(
                 h.class,
                 h.instruction,
                 h.p1,
                 h.p2,
                 h.le,
-                low(),
+                last_byte(),
                 first,
                 to,
                 number(3),
@@ -144,21 +178,21 @@ pub(crate) fn call(
             )
         }
         23 => {
-            let h = start();
+            let h = next_head();
             gorvisclen_should_split(
                 h.class,
                 h.instruction,
                 h.p1,
                 h.p2,
                 h.le,
-                low(),
+                last_byte(),
                 first,
                 number(3),
                 out,
             )
         }
         24 => {
-            let h = start();
+            let h = next_head();
             gorvisclen_new_non_extended(
                 h.class,
                 h.instruction,
@@ -170,7 +204,7 @@ pub(crate) fn call(
             )
         }
         25 => {
-            let h = start();
+            let h = next_head();
             gorvisclen_write_next(
                 h.class,
                 h.instruction,
@@ -179,7 +213,7 @@ pub(crate) fn call(
                 short_le(h),
                 number(3),
                 number(3),
-                low(),
+                last_byte(),
                 first,
                 to,
                 number(3),

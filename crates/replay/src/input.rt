@@ -1,17 +1,18 @@
-// The file, read as it goes. Behind its end there are zeros, so that a file cut short or changed is read to an end too.
+// The file, read from front to end. Past its end there are zeros, so a file that is cut short or changed is read to an
+// end too.
 ghost use Prim.Native.Nat.{_<_, _≤_};
 ghost use mathlib.Core.Path.{_≡_};
 ghost use lib.ListN.{length};
 
-// Zeros, enough for the longest string and for what is lent with it.
+// Zeros, enough for the longest string and for the bytes that are lent with it.
 pub(crate) fn space() -> [u8; 65600]
     ensures { λ r. ⌜ 65600 ≡ length r ⌝ }
 {
     [0; 65600]
 }
 
-// So many less, or none.
-pub(crate) fn less(n: usize, k: usize) -> usize
+// n less k, or 0 if k is greater.
+pub(crate) fn minus_or_zero(n: usize, k: usize) -> usize
     ensures { λ r. ⌜ r ≤ n ⌝ }
 {
     if n < k {
@@ -27,7 +28,7 @@ pub(crate) fn byte() -> u8 {
     b[0]
 }
 
-// The next number, of so many bytes, at most four.
+// The next number, in so many bytes (at most four).
 pub(crate) fn number(bytes: usize) -> usize
     ensures { λ r. ⌜ r < 0x100000000 ⌝ }
 {
@@ -40,8 +41,7 @@ pub(crate) fn number(bytes: usize) -> usize
     n
 }
 
-// The next so many bytes, read to a place, where there is room for them; says which place is behind those that there
-// are.
+// Reads the next n bytes to a place, if there is room for them. Returns the place after the bytes that the file has.
 pub(crate) fn read(to: &mut [u8], at: usize, n: usize) -> usize {
     let room = to.len();
     if at <= room {
@@ -53,7 +53,7 @@ pub(crate) fn read(to: &mut [u8], at: usize, n: usize) -> usize {
     at
 }
 
-// So many bytes from a place on, each a step above the one before; says which place is behind them.
+// Writes n bytes from a place on, each a step above the one before. Returns the place after them.
 fn filled(to: &mut [u8], from: usize, n: usize, first: u8, step: u8) -> usize {
     let mut at = from;
     let mut b = first;
@@ -70,8 +70,9 @@ fn filled(to: &mut [u8], from: usize, n: usize, first: u8, step: u8) -> usize {
     at
 }
 
-// How a string stands in the file: how many bytes before its filling, how many there are of the filling, the first of
-// these and the step from each to the next, how many bytes behind it, and how many bytes of the file all that takes.
+// How a string is written in the file. `front`: how many bytes are before its filling. `filling`: how many bytes the
+// filling has; `first`: the first of them; `step`: the step from each to the next. `back`: how many bytes are after it.
+// `taken`: how many bytes of the file all that takes.
 pub(crate) struct Form {
     front: usize,
     filling: usize,
@@ -81,7 +82,7 @@ pub(crate) struct Form {
     pub(crate) taken: usize,
 }
 
-// That of the next string.
+// The form of the next string.
 pub(crate) fn form_of_next() -> Form {
     let n = byte() as usize;
     if n < 255 {
@@ -109,14 +110,14 @@ pub(crate) fn form_of_next() -> Form {
     }
 }
 
-// Lays the string out, and says how long it is.
+// Writes the string of a form to the front of `to`, and returns its length.
 pub(crate) fn string(form: Form, to: &mut [u8]) -> usize {
     let at = read(to, 0, form.front);
     let at = filled(to, at, form.filling, form.first, form.step);
     read(to, at, form.back)
 }
 
-// The next so many numbers of three bytes, at most 16.
+// Reads the next `count` numbers of three bytes, at most 16.
 pub(crate) fn numbers(to: &mut [u32; 16], count: usize) {
     let mut i = 0;
     while i < 16 {

@@ -1,12 +1,12 @@
-// Lines on standard output.
+// The lines that are printed.
 
-// A number behind words.
+// Prints words, and a number after them.
 fn number(before: &[u8], n: u64) {
     io::write_all(1, before);
     io::print_decimal(1, n);
 }
 
-// Of what, how many answers there are, and how many differ.
+// Prints how many answers an operation has, and how many of them differ.
 pub(crate) fn tally(name: &[u8], answers: usize, differing: usize) {
     io::write_all(1, name);
     number(b": ", answers as u64);
@@ -14,8 +14,8 @@ pub(crate) fn tally(name: &[u8], answers: usize, differing: usize) {
     io::write_all(1, b" differ\n");
 }
 
-// What differs in an answer: the reply, which is its item 0, a number that is told, or the checksum, which is its item
-// 17.
+// Prints which item of an answer differs: 0 is the reply, 1 to 16 are the numbers written for the host, 17 is the
+// checksum.
 pub(crate) fn difference(answer: usize, item: usize, expected: u64, found: u64) {
     number(b"WRONG: answer ", answer as u64);
     number(b", item ", item as u64);
@@ -24,7 +24,7 @@ pub(crate) fn difference(answer: usize, item: usize, expected: u64, found: u64) 
     io::write_all(1, b"\n");
 }
 
-// Whether the file is whole: whether the last answer is, and nothing follows.
+// Prints whether the file is whole: the last answer is, and nothing is after it.
 pub(crate) fn end(whole: bool) {
     let mut more = [0u8; 1];
     if io::read_full(0, &mut more) == 0 {

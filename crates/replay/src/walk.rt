@@ -2,7 +2,7 @@
 use crate::answer;
 use crate::calls;
 use crate::input;
-use crate::input::less;
+use crate::input::minus_or_zero;
 use crate::input::number;
 use crate::report;
 use byte_slices::part;
@@ -14,8 +14,9 @@ struct Tally {
     whole: bool,
 }
 
-// Makes a call with two strings, so many numbers, and what is lent, and hears its answer.
-fn answered(
+// Calls an operation with two strings, `count` numbers and the lent bytes, and compares its answer with the one in the
+// file.
+fn call_and_compare(
     operation: u8,
     answer: usize,
     count: usize,
@@ -41,13 +42,13 @@ fn answered(
         714,
         715,
     ];
-    answer::lend(to);
+    answer::fill_lent(to);
     let reply = calls::call(operation, count, first, second, to, &mut out);
-    answer::heard(answer, reply, to, &out)
+    answer::compare(answer, reply, to, &out)
 }
 
-// Replays the next answer of the file. Its first number is how much is lent.
-fn replayed(operation: u8, answer: usize) -> u8 {
+// Replays the next answer of the file. Its first number is how many bytes are lent.
+fn replay_answer(operation: u8, answer: usize) -> u8 {
     let mut first = input::space();
     let mut second = input::space();
     let mut lent = input::space();
@@ -56,35 +57,35 @@ fn replayed(operation: u8, answer: usize) -> u8 {
     let first_len = input::string(one, &mut first);
     let two = input::form_of_next();
     let second_len = input::string(two, &mut second);
-    let count = less(less(len, one.taken), two.taken) / 3;
-    let at = less(65600, number(3));
-    answered(
+    let count = minus_or_zero(minus_or_zero(len, one.taken), two.taken) / 3;
+    let at = minus_or_zero(65600, number(3));
+    call_and_compare(
         operation,
         answer,
-        less(count, 1),
+        minus_or_zero(count, 1),
         part(&first, 0, first_len),
         part(&second, 0, second_len),
         &mut lent[at..],
     )
 }
 
-// The same, added to those before it. What differs is shown where it is the first to differ.
+// Replays the next answer, and adds it to the tally. The first difference of a section is printed.
 fn with_next(operation: u8, before: Tally) -> Tally {
     let answer = before.answers % 0x1000000 + 1;
     let shown = if before.differing == 0 { answer } else { 0 };
-    let heard = replayed(operation, shown);
+    let outcome = replay_answer(operation, shown);
     Tally {
         answers: answer,
-        differing: if heard == 0 {
+        differing: if outcome == 0 {
             before.differing
         } else {
             before.differing % 0x1000000 + 1
         },
-        whole: heard != 2,
+        whole: outcome != 2,
     }
 }
 
-// The answers of a section, so many.
+// Replays the `count` answers of a section.
 fn answers(operation: u8, count: usize) -> Tally {
     let mut tally = Tally {
         answers: 0,
@@ -99,7 +100,7 @@ fn answers(operation: u8, count: usize) -> Tally {
     tally
 }
 
-// Replays the next section, prints its line, and adds it to those before it.
+// Replays the next section, prints its line, and adds it to the tally.
 fn with_section(before: Tally) -> Tally {
     let operation = input::byte();
     let mut name = [0u8; 255];

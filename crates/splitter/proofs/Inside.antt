@@ -1,4 +1,4 @@
--- A part takes no more than the data that are left, and a piece lies in the data. Assumes nothing.
+-- A part takes fewer bytes than are left, and a piece lies in the data.
 use Prim.Native.Nat.{ℕ, _+_, _≤_, _<_}
 use mathlib.Core.Path.{_≡_, _∙_}
 use mathlib.Core.List.{List}
@@ -7,12 +7,12 @@ use native.Mathlib.Omega.{arith}
 use borrow.Author.Tests.{leb-false}
 use lib.Dec.{ltb, leb, eqb}
 use lib.ListN.{length, drop, length-drop}
-use Rattle.basis.specs.Reply.{Reply, is, then}
+use Rattle.basis.specs.Reply.{Reply, ok, then}
 use Rattle.basis.proofs.Reply.{All, all-cond, all-then}
 use Rattle.builder.specs.declared.CommandBuilder.{CommandBuilder}
-use Rattle.builder.proofs.Data.{few}
+use Rattle.builder.proofs.Data.{few-enough}
 use Rattle.splitter.specs.Step.{roomOf, stepOf}
-use Rattle.splitter.specs.Pieces.{placeIn, pieceBy, leftOf, nextOf}
+use Rattle.splitter.specs.Pieces.{placeIn, pieceBy, nextLeftOf, nextOf}
 use Rattle.splitter.specs.declared.step.Split.{Split}
 use Rattle.splitter.specs.declared.pieces.Left.{Left}
 use Rattle.splitter.specs.declared.pieces.Piece.{Piece}
@@ -24,6 +24,7 @@ abbrev pub Fewer : ℕ → Option Split → Type 0
 Fewer n none = Unit {0}
 Fewer n (some s) = s .len < n
 
+-- a step that splits takes fewer bytes than are left
 pub step-fewer : (b : CommandBuilder) (n m : ℕ) → All (Fewer n) (stepOf b n m)
 unfolding stepOf
 step-fewer b n m =
@@ -33,36 +34,37 @@ step-fewer b n m =
     (λ _. all-cond F (leb n (roomOf b n m)) _ _ (λ _. tt)
     (λ h. all-cond F (eqb (roomOf b n m) 0) _ _ (λ _. tt) (λ _. leb-false n (roomOf b n m) h))))
 
--- what is left, by its step
-pub left-by : (l : Left) (d : List ℕ) (x : Reply (Option Split)) → length d ≤ 65535
+-- the next piece by the step that gives it
+pub left-by-step : (l : Left) (d : List ℕ) (x : Reply (Option Split)) → length d ≤ 65535
     → stepOf (l .builder) (length (drop (placeIn l d) d)) (l .available) ≡ x
-    → leftOf l d ≡ then x (λ s. is (pieceBy l (placeIn l d) (length (drop (placeIn l d) d)) s))
-unfolding leftOf
-left-by l d x h e = few (length d) _ h ∙ rw e
+    → nextLeftOf l d ≡ then x (λ s. ok (pieceBy l (placeIn l d) (length (drop (placeIn l d) d)) s))
+unfolding nextLeftOf
+left-by-step l d x h e = few-enough (length d) _ h ∙ rw e
 
 -- a piece that ends within n bytes
-abbrev pub Ends : ℕ → Piece → Type 0
-Ends n p = p .at + p .len ≤ n
+abbrev pub EndsWithin : ℕ → Piece → Type 0
+EndsWithin n p = p .at + p .len ≤ n
 
+-- the next piece of what is left ends within the data
 piece-ends : (l : Left) (d : List ℕ) (s : Option Split) → let at = placeIn l d in
-    let n = length (drop at d) in Fewer n s → Ends (length d) (pieceBy l at n s)
+    let n = length (drop at d) in Fewer n s → EndsWithin (length d) (pieceBy l at n s)
 piece-ends l d none h = omega (arith, length-drop (placeIn l d) d)
 piece-ends l d (some s) h = omega (arith, length-drop (placeIn l d) d)
 
-pub left-inside : (l : Left) (d : List ℕ) → All (Ends (length d)) (leftOf l d)
-unfolding leftOf
+pub left-inside : (l : Left) (d : List ℕ) → All (EndsWithin (length d)) (nextLeftOf l d)
+unfolding nextLeftOf
 left-inside l d =
     let n = length (drop (placeIn l d) d) in
-    all-cond (Ends (length d)) (ltb 65535 (length d)) _ _ (λ _. tt)
-    (λ _. all-then (Ends (length d)) (Fewer n) (stepOf (l .builder) n (l .available)) _ (step-fewer (l .builder) n (l .available))
+    all-cond (EndsWithin (length d)) (ltb 65535 (length d)) _ _ (λ _. tt)
+    (λ _. all-then (EndsWithin (length d)) (Fewer n) (stepOf (l .builder) n (l .available)) _ (step-fewer (l .builder) n (l .available))
     (λ s h. piece-ends l d s h))
 
--- a piece of a chain lies in the data
-abbrev pub EndsIn : ℕ → Option Piece → Type 0
-EndsIn n none = Unit {0}
-EndsIn n (some p) = Ends n p
+-- the same of the next piece, if there is one
+abbrev pub NextEndsWithin : ℕ → Option Piece → Type 0
+NextEndsWithin n none = Unit {0}
+NextEndsWithin n (some p) = EndsWithin n p
 
-pub next-inside : (c : Pieces) (d : List ℕ) → All (EndsIn (length d)) (nextOf c d)
+pub next-inside : (c : Pieces) (d : List ℕ) → All (NextEndsWithin (length d)) (nextOf c d)
 next-inside pieces.Done d = tt
 next-inside (pieces.Left l) d =
-    all-then (EndsIn (length d)) (Ends (length d)) (leftOf l d) _ (left-inside l d) (λ p h. h)
+    all-then (NextEndsWithin (length d)) (EndsWithin (length d)) (nextLeftOf l d) _ (left-inside l d) (λ p h. h)

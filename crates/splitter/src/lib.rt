@@ -1,4 +1,6 @@
-// Commands cut: one step in every mode, and a chain in short mode, piece by piece.
+// Cutting a command that is too long for a buffer: one step in every mode (step.rt), and all its pieces in short mode,
+// one at a time (pieces.rt). Rules 4.1 to 4.10 and 12.10.
+// Ported, with changes, from src/command.rs of the crate iso7816 0.2.2 (see NOTICE).
 mod pieces;
 mod step;
 
@@ -13,5 +15,5 @@ pub use step::ShouldSplit;
 pub use step::Split;
 pub use step::should_split;
 
-// The buffer for a short command with 255 data bytes and Le: four header bytes, Lc, data, Le.
+// The default buffer, for a short command with 255 data bytes and Le: 4 + 1 + 255 + 1 bytes (rule 4.2).
 pub const BUFFER_LEN: usize = 261;

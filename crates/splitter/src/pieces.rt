@@ -1,8 +1,9 @@
-// A chain of pieces in short mode, one at a time.
+// The pieces of a command in short mode, one at a time. Rules 4.7 to 4.10.
+// Ported, with changes, from src/command.rs of the crate iso7816 0.2.2 (see NOTICE).
 ghost use mathlib.Core.Path.{_≡_};
 ghost use Prim.Native.Nat.{_+_, _≤_, _<_, min};
 ghost use lib.ListN.{length};
-ghost use Rattle.splitter.specs.Pieces.{behindOf, leftOf, Pieced, new-is, next-is, Writes, write-next-is};
+ghost use Rattle.splitter.specs.Pieces.{piecesAfter, nextLeftOf, next-left-is, new-pieces-is, next-is, write-piece-is, write-next-is};
 use crate::step::ShouldSplit;
 use crate::step::Split;
 use crate::step::should_split;
@@ -12,26 +13,26 @@ use builder::ExpectedLen;
 use builder::ExtendedLen;
 use builder::Length;
 
-// What is left of a command: its builder, the place from which on its data are left, and how long a piece may be.
+// What is left of a command: its builder, the place where the data that are left start, and how long a piece may be.
 pub struct Left {
     pub builder: CommandBuilder,
     pub at: usize,
     pub available: usize,
 }
 
-// A chain: some of the command is left, or nothing.
+// The pieces that are still to come: some of the command is left, or nothing.
 pub enum Pieces {
     Left(Left),
     Done,
 }
 
-// A chain, or the refusal: 3, 13, and 14 for a buffer under 10.
+// All pieces of a command, or the refusal: 3, 13, and 14 for a buffer under 10 (rule 4.7).
 pub enum NewPieces {
     Pieces(Pieces),
     Refused(u8),
 }
 
-// A piece: its builder, place and length of its data, and the chain behind it.
+// A piece: its builder, place and length of its data, and the pieces after it.
 pub struct Piece {
     pub builder: CommandBuilder,
     pub at: usize,
@@ -39,39 +40,39 @@ pub struct Piece {
     pub rest: Pieces,
 }
 
-// The next piece; none left; data above 65,535 bytes (13); a buffer in which no data fit (14).
+// The next piece, none left, or the refusal: 13 for data above 65,535 bytes, 14 for a buffer in which no data fit.
 pub enum NextPiece {
     Piece(Piece),
     NoneLeft,
     Refused(u8),
 }
 
-// How many bytes a piece took in the buffer, and the chain behind it.
+// How many bytes a piece takes in the buffer, and the pieces after it.
 pub struct Written {
     pub len: usize,
     pub rest: Pieces,
 }
 
-// The next piece written; none left; a refusal as for the piece, or a buffer too short from the place (16).
+// The next piece is written, none is left, or the refusal: as for the next piece, or 16 if it does not fit the buffer.
 pub enum WriteNext {
     Written(Written),
     NoneLeft,
     Refused(u8),
 }
 
-// A place, or the end where it lies past it.
+// A place in the data, or their end if the place lies past it.
 fn place(at: usize, end: usize) -> usize
     ensures { λ r. ⌜ r ≡ min at end ⌝ }
 {
     if at <= end { at } else { end }
 }
 
-// The chain behind a part that was split off.
-fn behind(split: Split, at: usize, available: usize) -> Pieces
+// The pieces after a part that was split off.
+fn pieces_after(split: Split, at: usize, available: usize) -> Pieces
     requires { ⌜ at + split .len < 0x10000000000000000 ⌝ }
-    ensures { λ r. ⌜ r ≡ behindOf split at available ⌝ }
+    ensures { λ r. ⌜ r ≡ piecesAfter split at available ⌝ }
 {
-    let builder = split.later;
+    let builder = split.rest;
     Pieces::Left(Left {
         builder,
         at: at + split.len,
@@ -79,10 +80,10 @@ fn behind(split: Split, at: usize, available: usize) -> Pieces
     })
 }
 
-// The next piece of what is left, in data of at most 65,535 bytes.
+// The next piece of what is left, in data of at most 65,535 bytes: one step of splitting (rule 4.8).
 fn next_left(left: Left, data: &[u8]) -> NextPiece
     requires { ⌜ length (now «data») ≤ 65535 ⌝ }
-    ensures { λ r. ⌜ Pieced (leftOf left (now («data» .entry))) r ⌝ }
+    ensures { λ r. ⌜ next-left-is (nextLeftOf left (now («data» .entry))) r ⌝ }
 {
     let at = place(left.at, data.len());
     let builder = left.builder;
@@ -99,8 +100,8 @@ fn next_left(left: Left, data: &[u8]) -> NextPiece
             })
         }
         ShouldSplit::Split(split) => {
-            let builder = split.now;
-            let further = behind(split, at, left.available);
+            let builder = split.first;
+            let further = pieces_after(split, at, left.available);
             NextPiece::Piece(Piece {
                 builder,
                 at,
@@ -111,10 +112,10 @@ fn next_left(left: Left, data: &[u8]) -> NextPiece
     }
 }
 
-// Writes a piece into a buffer from a place.
+// Writes a piece into a buffer from a place (rule 4.10).
 fn write_piece(piece: Piece, data: &[u8], buffer: &mut [u8], at: usize) -> WriteNext
     requires { ⌜ piece .at + piece .len ≤ length (now «data») ⌝ }
-    ensures { λ r. ⌜ Writes piece (now («data» .entry)) (now (buffer .entry)) at r (now (buffer .exit)) ⌝ }
+    ensures { λ r. ⌜ write-piece-is piece (now («data» .entry)) (now (buffer .entry)) at r (now (buffer .exit)) ⌝ }
 {
     let start = piece.at;
     let end = start + piece.len;
@@ -129,7 +130,7 @@ fn write_piece(piece: Piece, data: &[u8], buffer: &mut [u8], at: usize) -> Write
 }
 
 impl Pieces {
-    // A chain for a command in short mode and pieces of at most so many bytes.
+    // The pieces of a command in short mode, each of at most this many bytes (rule 4.7).
     pub fn new_non_extended(
         class: u8,
         instruction: u8,
@@ -139,7 +140,7 @@ impl Pieces {
         le: u16,
         available: usize,
     ) -> NewPieces
-        ensures { λ r. ⌜ new-is class instruction p1 p2 (now («data» .entry)) le available r ⌝ }
+        ensures { λ r. ⌜ new-pieces-is class instruction p1 p2 (now («data» .entry)) le available r ⌝ }
     {
         let short = ExtendedLen::Unsupported;
         let expected = ExpectedLen::Ne(le);
@@ -159,7 +160,7 @@ impl Pieces {
         }
     }
 
-    // The next piece of a chain, in the data that are handed along.
+    // The next piece, in the data that each call is given again; none left after the last one (rules 4.8 and 4.9).
     pub fn next(self, data: &[u8]) -> NextPiece
         ensures { λ r. ⌜ next-is self (now («data» .entry)) r ⌝ }
     {
@@ -174,7 +175,7 @@ impl Pieces {
         }
     }
 
-    // Writes the next piece of a chain into a buffer from a place.
+    // Writes the next piece into a buffer from a place. Bytes before it and after it stay (rule 4.10).
     pub fn write_next(self, data: &[u8], buffer: &mut [u8], at: usize) -> WriteNext
         ensures { λ r. ⌜ write-next-is self (now («data» .entry)) (now (buffer .entry)) at r (now (buffer .exit)) ⌝ }
     {

@@ -1,6 +1,7 @@
-// One step of splitting.
+// One step of splitting. Rules 4.1 to 4.6.
+// Ported, with changes, from src/command.rs of the crate iso7816 0.2.2 (see NOTICE).
 ghost use mathlib.Core.Path.{_≡_};
-ghost use Rattle.splitter.specs.Step.{most, roomIn, firstOf, should-split-is};
+ghost use Rattle.splitter.specs.Step.{mostData, roomIn, firstOf, should-split-is};
 use builder::CommandBuilder;
 use builder::ExpectedLen;
 use builder::ExtendedLen;
@@ -8,21 +9,22 @@ use builder::Length;
 
 // The builder of the first part and how many bytes of the data it takes, and the builder of the rest.
 pub struct Split {
-    pub now: CommandBuilder,
+    pub first: CommandBuilder,
     pub len: usize,
-    pub later: CommandBuilder,
+    pub rest: CommandBuilder,
 }
 
-// The command fits as it is, or is split; data above 65,535 bytes (13); a buffer in which no data fit (14).
+// The command fits as it is, or is split, or the refusal: 13 for data above 65,535 bytes, 14 for a buffer without room
+// for data (rule 4.6).
 pub enum ShouldSplit {
     Whole,
     Split(Split),
     Refused(u8),
 }
 
-// The most data bytes of a part.
-fn most(mode: ExtendedLen) -> usize
-    ensures { λ r. ⌜ r ≡ most mode ⌝ }
+// The most data bytes of a part: 255 in short mode, else 65,535 (rule 4.1).
+fn most_data(mode: ExtendedLen) -> usize
+    ensures { λ r. ⌜ r ≡ mostData mode ⌝ }
 {
     match mode {
         ExtendedLen::Unsupported => 255,
@@ -31,7 +33,7 @@ fn most(mode: ExtendedLen) -> usize
     }
 }
 
-// The room for data in a buffer, beside so many other bytes.
+// The room for data in a buffer, next to this many other bytes; not below 0 (rule 4.1).
 fn room(mode: ExtendedLen, extra: usize, available: usize) -> usize
     ensures { λ r. ⌜ r ≡ roomIn mode extra available ⌝ }
 {
@@ -39,11 +41,11 @@ fn room(mode: ExtendedLen, extra: usize, available: usize) -> usize
         return 0;
     }
     let free = available - extra;
-    let most = most(mode);
-    if free <= most { free } else { most }
+    let most_data = most_data(mode);
+    if free <= most_data { free } else { most_data }
 }
 
-// The first part: chaining bit set, no expected length.
+// The first part: class bit 0x10 set and Le 0, else as the command (rule 4.4).
 fn first(builder: CommandBuilder) -> CommandBuilder
     ensures { λ r. ⌜ r ≡ firstOf builder ⌝ }
 {
@@ -61,7 +63,8 @@ fn first(builder: CommandBuilder) -> CommandBuilder
     }
 }
 
-// Whether a command with these data fits a buffer of so many bytes, and its two parts where it does not.
+// Whether a command with these data fits a buffer of this many bytes, and its two parts if it does not. The room counts
+// the bytes of Lc and Le for all remaining data, extended ones if they are over 255 bytes (rules 4.2 to 4.6).
 pub fn should_split(builder: CommandBuilder, data: &[u8], available: usize) -> ShouldSplit
     ensures { λ r. ⌜ should-split-is builder (now («data» .entry)) available r ⌝ }
 {
@@ -81,9 +84,13 @@ pub fn should_split(builder: CommandBuilder, data: &[u8], available: usize) -> S
             if len == 0 {
                 return ShouldSplit::Refused(14);
             }
-            let now = first(builder);
-            let later = builder.lowered();
-            ShouldSplit::Split(Split { now, len, later })
+            let first_part = first(builder);
+            let rest = builder.lowered();
+            ShouldSplit::Split(Split {
+                first: first_part,
+                len,
+                rest,
+            })
         }
     }
 }

@@ -1,4 +1,4 @@
--- What a step of splitting replies, and the parts of a command step after step. Assumes nothing.
+-- What a step of splitting replies, the room of the default buffer, and the parts of a command step after step.
 use Prim.Native.Nat.{ℕ, zero, suc, _≤_, _<_}
 use mathlib.Core.Path.{_≡_, refl, ap, _∙_}
 use mathlib.Core.List.{List, [], _∷_}
@@ -8,14 +8,16 @@ use native.Mathlib.Omega.{arith}
 use borrow.Author.Tests.{eqb-false, leb-true, leb-false}
 use lib.Dec.{ltb, leb, eqb}
 use lib.ListN.{length, take, drop, length-drop}
-use Rattle.basis.specs.Reply.{Reply, is, no as refused}
+use Rattle.basis.specs.Reply.{Reply, ok, refused}
 use Rattle.basis.proofs.Reply.{All, all-is, all-cond}
-use Rattle.builder.specs.Bytes.{loweredOf}
+use Rattle.builder.specs.Bytes.{loweredOf, leWritten}
 use Rattle.builder.specs.declared.CommandBuilder.{CommandBuilder}
+use Rattle.builder.specs.declared.ExtendedLen.the-variants.{Unsupported}
+use Rattle.builder_laws.proofs.Cases.{le-none, lc-long, le-long}
 use Rattle.splitter.specs.Step.{roomOf, firstOf, stepOf}
 use Rattle.splitter.specs.Pieces.{Part, partsBy, partsIn, parts}
 use Rattle.splitter.specs.declared.step.Split.{Split}
-pub use Rattle.splitter.proofs.Steps.{room-is, room-some, step-whole, step-split, never-refused}
+pub use Rattle.splitter.proofs.Steps.{room-is, room-not-zero, step-whole, step-split, never-refused}
 use Rattle.splitter_laws.specs.Cut.{splitOf, Stepped}
 
 module _ (b : CommandBuilder) (n m : ℕ) where
@@ -32,17 +34,25 @@ module _ (b : CommandBuilder) (n m : ℕ) where
         split = refl;
       }))))
 
--- what comes of a step depends on what comes of the rest only
+-- the default buffer in short mode, with over 255 data bytes: room for 254 of them without Le, 252 with Le (rule 4.2)
+pub room-261 : (b : CommandBuilder) (n : ℕ) → b .mode ≡ Unsupported → 255 < n
+    → (leWritten b ≡ 0 → roomOf b n 261 ≡ 254) × (1 ≤ leWritten b → roomOf b n 261 ≡ 252)
+room-261 b n m h = (
+  λ e. rw (room-is b n 261, lc-long b n h, le-none b n e, m),
+  λ e. rw (room-is b n 261, lc-long b n h, le-long b n h e, m),
+)
+
+-- the parts that a step gives depend on the parts of the rest only
 parts-same : (b : CommandBuilder) (d : List ℕ) (x : Reply (Option Split)) (f g : CommandBuilder → List ℕ → List Part)
-    → ((s : Split) → x ≡ is (some s) → f (s .later) (drop (s .len) d) ≡ g (s .later) (drop (s .len) d))
+    → ((s : Split) → x ≡ ok (some s) → f (s .rest) (drop (s .len) d) ≡ g (s .rest) (drop (s .len) d))
     → partsBy b d x f ≡ partsBy b d x g
 parts-same b d (refused k) f g h = refl
-parts-same b d (is none) f g h = refl
-parts-same b d (is (some s)) f g h =
-    ap (λ (ps : List Part). record { builder = s .now; «data» = take (s .len) d } ∷ ps) (h s refl)
+parts-same b d (ok none) f g h = refl
+parts-same b d (ok (some s)) f g h =
+    ap (λ (ps : List Part). record { builder = s .first; «data» = take (s .len) d } ∷ ps) (h s refl)
 
--- a split leaves fewer data
-fewer-left : (b : CommandBuilder) (d : List ℕ) (m : ℕ) (s : Split) → stepOf b (length d) m ≡ is (some s)
+-- a split leaves fewer data bytes
+fewer-left : (b : CommandBuilder) (d : List ℕ) (m : ℕ) (s : Split) → stepOf b (length d) m ≡ ok (some s)
     → length (drop (s .len) d) < length d
 fewer-left b d m s e =
     let h = all-is (Stepped b (length d) m) (stepOf b (length d) m) (some s) (stepped b (length d) m) e in
@@ -54,28 +64,28 @@ unfolding partsIn
 enough zero j b d m h g = absurd (omega arith)
 enough (suc k) zero b d m h g = absurd (omega arith)
 enough (suc k) (suc j) b d m h g =
-    parts-same b d (stepOf b (length d) m) (λ later rest. partsIn k later rest m) (λ later rest. partsIn j later rest m) (λ s e.
+    parts-same b d (stepOf b (length d) m) (λ restBuilder rest. partsIn k restBuilder rest m) (λ restBuilder rest. partsIn j restBuilder rest m) (λ s e.
     let l = fewer-left b d m s e in
-    enough k j (s .later) (drop (s .len) d) m (omega arith) (omega arith))
+    enough k j (s .rest) (drop (s .len) d) m (omega arith) (omega arith))
 
 -- the parts, without a bound on their number
 module _ (b : CommandBuilder) (d : List ℕ) (m : ℕ) where
-  pub parts-is : parts b d m ≡ partsBy b d (stepOf b (length d) m) (λ later rest. parts later rest m)
+  pub parts-is : parts b d m ≡ partsBy b d (stepOf b (length d) m) (λ restBuilder rest. parts restBuilder rest m)
   unfolding parts partsIn
   parts-is =
       let n = length d in
-      parts-same b d (stepOf b n m) (λ later rest. partsIn n later rest m) (λ later rest. parts later rest m) (λ s e.
-      enough n (suc (length (drop (s .len) d))) (s .later) (drop (s .len) d) m (fewer-left b d m s e) (omega arith))
+      parts-same b d (stepOf b n m) (λ restBuilder rest. partsIn n restBuilder rest m) (λ restBuilder rest. parts restBuilder rest m) (λ s e.
+      enough n (suc (length (drop (s .len) d))) (s .rest) (drop (s .len) d) m (fewer-left b d m s e) (omega arith))
 
-  pub parts-whole : stepOf b (length d) m ≡ is none → parts b d m ≡ record { builder = b; «data» = d } ∷ []
+  pub parts-whole : stepOf b (length d) m ≡ ok none → parts b d m ≡ record { builder = b; «data» = d } ∷ []
   parts-whole h = parts-is ∙ rw h
 
-  pub parts-split : (s : Split) → stepOf b (length d) m ≡ is (some s)
-      → parts b d m ≡ record { builder = s .now; «data» = take (s .len) d } ∷ parts (s .later) (drop (s .len) d) m
+  pub parts-split : (s : Split) → stepOf b (length d) m ≡ ok (some s)
+      → parts b d m ≡ record { builder = s .first; «data» = take (s .len) d } ∷ parts (s .rest) (drop (s .len) d) m
   parts-split s h = parts-is ∙ rw h
 
--- What holds of every cut with a buffer of ten bytes and at most 65,535 data bytes: it holds of a command that fits as it is,
--- and of a command that is split where it holds of the rest.
+-- a property P of every cut, for a buffer of ten bytes and at most 65,535 data bytes: show it of a command that fits as
+-- it is, and of a command that is split, if it holds of the rest
 module _ (m : ℕ) (ten : 10 ≤ m) (P : CommandBuilder → List ℕ → List Part → Type 0)
     (whole : (b : CommandBuilder) (d : List ℕ) → length d ≤ roomOf b (length d) m
     → P b d (record { builder = b; «data» = d } ∷ []))
@@ -89,7 +99,7 @@ module _ (m : ℕ) (ten : 10 ≤ m) (P : CommandBuilder → List ℕ → List Pa
       elim (decLe n r) [
         | yes g ↦ rw (parts-whole b d m (step-whole b n m few (omega arith) g)) (whole b d g)
         | no g ↦
-            let some = room-some b n m ten in
+            let some = room-not-zero b n m ten in
             let left = length-drop r d in
             let rest = cut-in k (loweredOf b) (drop r d) (omega arith) (omega arith) in
             rw (parts-split b d m (splitOf b n m) (step-split b n m few (omega arith) (omega arith) (λ z. omega arith)))

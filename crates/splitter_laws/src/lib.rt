@@ -1,1 +1,1 @@
-// Theorems about the definitions of a command's cutting: see specs/ and proofs/. It has no code.
+// Theorems about cutting a command: see specs/ and proofs/. This crate has no code.

@@ -1,4 +1,4 @@
--- What was read lies within the bytes that it was read in. Assumes nothing.
+-- What is read lies within the bytes that it is read in.
 use Prim.Native.Nat.{ℕ, _+_, _-_, _≤_}
 use mathlib.Core.Path.{_≡_}
 use mathlib.Core.List.{List}
@@ -6,7 +6,7 @@ use native.Mathlib.Omega.{arith}
 use lib.Dec.{leb}
 use lib.ListN.{length, drop, length-drop}
 use borrow.Author.Tests.{leb-true}
-use Rattle.basis.specs.Reply.{is}
+use Rattle.basis.specs.Reply.{ok}
 use Rattle.basis.proofs.Reply.{All, all-is, all-cond, all-then}
 use Rattle.tlv.specs.Tag.{Tag, tagOf}
 use Rattle.tlv.specs.Len.{Len, lenOf}
@@ -15,7 +15,7 @@ use Rattle.tlv.specs.declared.Reading.{Reading}
 use Rattle.tlv.proofs.Tags.{by-tag}
 use Rattle.tlv.proofs.Lengths.{by-length}
 
--- so many bytes of m, and not none
+-- n is a number of bytes from 1 to m
 abbrev pub Some : ℕ → ℕ → Type 0
 Some m n = (1 ≤ n) × (n ≤ m)
 
@@ -25,7 +25,7 @@ Tagged m t = Some m (t .size)
 abbrev pub Sized : ℕ → Len → Type 0
 Sized m l = Some m (l .size)
 
--- an object has a byte of tag and one of length, and ends within m bytes
+-- an object has at least one byte of tag and one of length, and ends within m bytes
 abbrev pub Ends : ℕ → Object → Type 0
 Ends m o = (2 ≤ o .at) × (sizeOf o ≤ m)
 
@@ -49,10 +49,10 @@ object-within r s =
     all-cond E (leb (l .number) room) _ _
     (λ f. omega (arith, leb-true (l .number) room f, length-drop (t .size) s)) (λ _. tt)))
 
--- the same in plain places: a tag and an object that were read lie in those bytes
+-- the same in places: a tag and an object that are read lie in those bytes
 module _ (r : Reading) (s : List ℕ) where
-  pub tag-inside : (t : Tag) → tagOf r s ≡ is t → (1 ≤ t .size) × (t .size ≤ length s)
+  pub tag-inside : (t : Tag) → tagOf r s ≡ ok t → (1 ≤ t .size) × (t .size ≤ length s)
   tag-inside t e = omega (arith, all-is (Tagged (length s)) (tagOf r s) t (tag-within r s) e)
 
-  pub object-inside : (o : Object) → objectOf r s ≡ is o → (2 ≤ o .at) × (o .at + o .len ≤ length s)
+  pub object-inside : (o : Object) → objectOf r s ≡ ok o → (2 ≤ o .at) × (o .at + o .len ≤ length s)
   object-inside o e = omega (arith, all-is (Ends (length s)) (objectOf r s) o (object-within r s) e)

@@ -1,11 +1,11 @@
--- The lookup of a path. Document 01, "BER records" (lookup of a path) and "Numbers of refusal" (11, 12).
+-- The lookup of a path (rules 6.10 to 6.15, 1.11 and 1.12).
 use Prim.Native.Nat.{ℕ, _-_}
 use mathlib.Core.Path.{_≡_}
 use mathlib.Core.Bool.{cond}
 use mathlib.Core.List.{List, [], _∷_}
 use lib.Dec.{eqb}
 use lib.ListN.{length, take, drop}
-use Rattle.basis.specs.Reply.{Reply, is, no, then}
+use Rattle.basis.specs.Reply.{Reply, ok, refused, then}
 use Rattle.tlv.specs.Walk.{Item, Stop, walk}
 use Rattle.tlv.specs.declared.Reading.{Reading}
 use Rattle.tlv.specs.declared.lookup.GetDataObject.{GetDataObject}
@@ -16,51 +16,54 @@ pub record Span : Type 0 where
   pub at : ℕ
   pub len : ℕ
 
--- the bytes of a part; the part from a place to an end; the part that is all of a record
+-- the bytes of a part; the part from a place to an end; the part that is the whole record (rule 6.13)
 abbrev pub part : List ℕ → Span → List ℕ
 part s p = take (p .len) (drop (p .at) s)
 
 abbrev pub between : ℕ → ℕ → Span
 between a e = record { at = a; len = e - a }
 
-abbrev pub whole : List ℕ → Span
-whole s = record { at = 0; len = length s }
+abbrev pub wholeRecord : List ℕ → Span
+wholeRecord s = record { at = 0; len = length s }
 
--- where the value of an object lies
+-- where the value of an object stands
 abbrev pub valueOf : Item → Span
 valueOf i = record { at = i .at; len = i .len }
 
--- the value of the first object with the tag among those of a walk; the number of its stop where there is none
-unfoldable pub first : ℕ → List Item → Stop → Reply Span
-first t [] e = no (e .number)
-first t (i ∷ rest) e = cond (eqb (i .tag) t) (is (valueOf i)) (first t rest e)
+-- the value of the first object with the tag among those of a walk (rule 6.10); if there is none, the number of the
+-- stop. A number that is no tag matches nothing (rule 6.12), and what stands after the match is not read (rule 6.14)
+unfoldable pub firstValue : ℕ → List Item → Stop → Reply Span
+firstValue t [] e = refused (e .number)
+firstValue t (i ∷ rest) e = cond (eqb (i .tag) t) (ok (valueOf i)) (firstValue t rest e)
 
--- in bytes s that start at place a of the record
+-- the same in bytes s that start at place a of the record
 unfoldable pub seek : Reading → ℕ → ℕ → List ℕ → Reply Span
-seek r t a s = first t (walk r a s .items) (walk r a s .stop)
+seek r t a s = firstValue t (walk r a s .items) (walk r a s .stop)
 
--- from a part of the record, tag by tag: the first object with the tag is entered, and there is no way back
+-- a path followed from a part of the record, tag by tag: the first object with the tag is entered, and the lookup never
+-- turns back (rule 6.10)
 unfoldable pub follow : Reading → List ℕ → Span → List ℕ → Reply Span
-follow r s p [] = is p
+follow r s p [] = ok p
 follow r s p (t ∷ path) = then (seek r t (p .at) (part s p)) (λ q. follow r s q path)
 
--- the value that a path leads to, from the whole record
+-- the value that a path leads to, from the whole record; an empty path leads to the whole record (rule 6.13)
 abbrev pub lookup : Reading → List ℕ → List ℕ → Reply Span
-lookup r s path = follow r s (whole s) path
+lookup r s path = follow r s (wholeRecord s) path
 
-abbrev pub said : GetDataObject → Reply Span
-said (get.Value a n) = is (record { at = a; len = n })
-said get.End = no 11
-said get.Unreadable = no 12
+-- an answer of the code as a reply
+abbrev pub asReply : GetDataObject → Reply Span
+asReply (get.Value a n) = ok (record { at = a; len = n })
+asReply get.End = refused 11
+asReply get.Unreadable = refused 12
 
 -- the promise of `get_data_object`
 abbrev pub get-data-object-is : Reading → List ℕ → List ℕ → GetDataObject → Type 0
-get-data-object-is r s path x = said x ≡ lookup r s path
+get-data-object-is r s path x = asReply x ≡ lookup r s path
 
--- the value found, as that part of the record; no bytes where there is none
+-- the value found, as that part of the record; no bytes if there is none (rule 6.15)
 abbrev pub valueIn : List ℕ → Reply Span → List ℕ
-valueIn s (is p) = part s p
-valueIn s (no k) = []
+valueIn s (ok p) = part s p
+valueIn s (refused k) = []
 
 -- the promise of `value`
 abbrev pub value-is : Reading → List ℕ → List ℕ → List ℕ → Type 0

@@ -1,4 +1,4 @@
--- Places in a part, in one of several parts, and a list with other bytes there. Assumes nothing.
+-- Places in a part and in one of several parts, and a list with other bytes at these places.
 use Prim.Native.Nat.{ℕ, zero, suc, _+_, _≤_, _<_}
 use mathlib.Core.Path.{_≡_, refl, ap}
 use mathlib.Core.Bool.{true, false, cond, false≢true}
@@ -9,19 +9,19 @@ use lib.Dec.{leb}
 use lib.ListN.{length, getD}
 use borrow.Author.Tests.{ltb-true, lt-ltb, le-ltb, le-leb, lt-leb}
 use Rattle.basis.specs.Every.{Every}
-use Rattle.basis.proofs.Truth.{both, on-cond}
+use Rattle.basis.proofs.Truth.{both-true, on-cond}
 use Rattle.tlv.specs.Lookup.{Span}
 use Rattle.tlv_laws.specs.Skipped.{covers, coveredBy, fillIn}
-use Rattle.tlv_laws.proofs.Choice.{by-test, neither}
+use Rattle.tlv_laws.proofs.TruthValues.{by-test, neither}
 
--- places outside of a part, and of all parts of a list
+-- places outside of a part, and outside of all parts of a list
 pub covers-ahead : (q : Span) (i : ℕ) → i < q .at → covers q i ≡ false
 unfolding covers
 covers-ahead q i h = rw (lt-leb (q .at) i h)
 
-pub covers-behind : (q : Span) (i : ℕ) → q .at + q .len ≤ i → covers q i ≡ false
+pub covers-after : (q : Span) (i : ℕ) → q .at + q .len ≤ i → covers q i ≡ false
 unfolding covers
-covers-behind q i h = rw (le-leb (q .at) i (omega arith), le-ltb i (q .at + q .len) h)
+covers-after q i h = rw (le-leb (q .at) i (omega arith), le-ltb i (q .at + q .len) h)
 
 pub uncovered : (qs : List Span) (i : ℕ) → Every (λ q. covers q i ≡ false) qs → coveredBy qs i ≡ false
 unfolding coveredBy
@@ -53,7 +53,7 @@ pub covered-right : (xs ys : List Span) (i : ℕ) → coveredBy ys i ≡ true �
 covered-right [] ys i h = h
 covered-right (q ∷ qs) ys i h = covered-later q (qs ++ ys) i (covered-right qs ys i h)
 
--- a part that ends at a place or before it
+-- a part that ends where p starts, or before
 abbrev pub Before : Span → Span → Type 0
 Before p q = q .at + q .len ≤ p .at
 
@@ -61,10 +61,10 @@ pub covered-before : (p : Span) (qs : List Span) (i : ℕ) → Every (Before p) 
 unfolding coveredBy covers
 covered-before p [] i h e = absurd (false≢true e)
 covered-before p (q ∷ qs) i h e =
-    by-test (covers q i) (λ g. omega (arith, h .0, ltb-true i (q .at + q .len) (both (leb (q .at) i) _ g .1)))
+    by-test (covers q i) (λ g. omega (arith, h .0, ltb-true i (q .at + q .len) (both-true (leb (q .at) i) _ g .1)))
     (λ g. covered-before p qs i (h .1) (rw g at e))
 
--- other bytes in some parts: the length, and each byte
+-- a list with other bytes in some parts: its length, and each of its bytes
 pub length-fill : (f : ℕ → ℕ) (qs : List Span) (a : ℕ) (s : List ℕ) → length (fillIn f qs a s) ≡ length s
 unfolding fillIn
 length-fill f qs a [] = refl

@@ -1,4 +1,5 @@
--- On exactly which tags the crate's and the standard reading part, and that nothing else does. Assumes nothing.
+-- On which tags exactly the crate and the standard reading differ, and that objects and lookups differ nowhere else
+-- (rule 6.5).
 use Prim.Native.Nat.{ℕ, _+_, _%_, _≤_, _<_}
 use mathlib.Core.Path.{_≡_, refl, sym, ap, _∙_}
 use mathlib.Core.Bool.{Bool, true, false, cond, true≢false, false≢true}
@@ -10,27 +11,27 @@ use lib.ListN.{length, getD, take, drop, take-append-drop}
 use lib.Seq.{drop-drop}
 use borrow.Author.Tests.{ltb-false, leb-true, eqb-true, eqb-false, le-leb, lt-leb, eq-eqb, ne-eqb}
 use Rattle.basis.specs.Differ.{Differ}
-use Rattle.basis.specs.Reply.{is, no as refused}
+use Rattle.basis.specs.Reply.{ok, refused}
 use Rattle.basis.proofs.Reply.{All, by-reply, all-is, then-same, all-self}
-use Rattle.basis.proofs.Truth.{both, on-cond}
-use Rattle.tlv.specs.Tag.{Tag, among, sizeBy, sizeByCrate, sizeByStandard, thirdBy, thirdByCrate, threeBytes, longTag, tagOf}
+use Rattle.basis.proofs.Truth.{both-true, on-cond}
+use Rattle.tlv.specs.Tag.{Tag, inRange, tagSize, crateTagSize, standardTagSize, thirdByte, crateThirdByte, threeBytes, longTag, tagOf}
 use Rattle.tlv.specs.Object.{sizeOf, objectOf}
 use Rattle.tlv.specs.Walk.{walk}
-use Rattle.tlv.specs.Lookup.{Span, part, whole, seek, follow, lookup}
-use Rattle.tlv.proofs.Among.{inside, below, above}
+use Rattle.tlv.specs.Lookup.{Span, part, wholeRecord, seek, follow, lookup}
+use Rattle.tlv.proofs.InRange.{inside, below, above}
 use Rattle.tlv.proofs.Tags.{tag-two, tag-three, by-tag}
-use Rattle.tlv.proofs.Walk.{walk-no, walk-met, by-objects, seek-no, seek-is}
+use Rattle.tlv.proofs.Walk.{walk-refused, walk-met, by-objects, seek-refused, seek-is}
 use Rattle.tlv.specs.declared.Reading.the-variants.{Crate, Standard}
-use Rattle.tlv_laws.specs.Readings.{isOrFF, partsTwo, partsThree, tagParts, meetsOf, meetsAt, meetsFrom, meets}
+use Rattle.tlv_laws.specs.Readings.{isOrFF, secondDiffers, thirdDiffers, tagDiffers, meetsOf, meetsAt, meetsFrom, meets}
 use Rattle.tlv_laws.specs.Value.{ofValue}
-use Rattle.tlv_laws.proofs.Choice.{by-test, same-cond, neither, not-true-false}
+use Rattle.tlv_laws.proofs.TruthValues.{by-test, same-cond, neither, not-true-false}
 use Rattle.tlv_laws.proofs.Boundary.{walked-none, walked-append, walked-next}
 
--- a byte that is k or from FF on, told by a truth value
+-- a byte b is k or at least FF: what the test says
 module _ (k b : ℕ) where
-  is-or : b ≡ k → isOrFF k b ≡ true
+  is-k : b ≡ k → isOrFF k b ≡ true
   unfolding isOrFF
-  is-or e = rw (eq-eqb b k e)
+  is-k e = rw (eq-eqb b k e)
 
   is-ff : 0xFF ≤ b → isOrFF k b ≡ true
   unfolding isOrFF
@@ -40,39 +41,39 @@ module _ (k b : ℕ) where
   unfolding isOrFF
   is-neither n h = rw (ne-eqb b k n) (lt-leb _ b (omega arith))
 
-  not-parted : isOrFF k b ≡ false → (b ≡ k → ⊥) × (b < 0xFF)
-  not-parted e = (
-    λ z. true≢false (sym (is-or z) ∙ e),
+  neither-k-nor-ff : isOrFF k b ≡ false → (b ≡ k → ⊥) × (b < 0xFF)
+  neither-k-nor-ff e = (
+    λ z. true≢false (sym (is-k z) ∙ e),
     elim (decLt b 0xFF) [ yes h ↦ h | no h ↦ absurd (true≢false (sym (is-ff (omega arith)) ∙ e)) ],
   )
 
-  parted : isOrFF k b ≡ true → (b ≡ k → ⊥) → 0xFF ≤ b
-  parted e n = elim (decLt b 0xFF) [ yes h ↦ absurd (true≢false (sym e ∙ is-neither n h)) | no h ↦ omega arith ]
+  at-least-ff : isOrFF k b ≡ true → (b ≡ k → ⊥) → 0xFF ≤ b
+  at-least-ff e n = elim (decLt b 0xFF) [ yes h ↦ absurd (true≢false (sym e ∙ is-neither n h)) | no h ↦ omega arith ]
 
--- a second byte on which they part: the crate's tag ends there, the standard's does not
-module _ (b : ℕ) (e : partsTwo b ≡ true) where
+-- a second byte on which the readings differ: the tag ends there in the crate reading, and not in the standard reading
+module _ (b : ℕ) (e : secondDiffers b ≡ true) where
   two-from : eqb b 0x1E ≡ false → 0xFF ≤ b
-  two-from h = parted _ b e (λ z. eqb-false b 0x1E h (omega (arith, z)))
+  two-from h = at-least-ff _ b e (λ z. eqb-false b 0x1E h (omega (arith, z)))
 
-  two-crate : sizeByCrate b ≡ 2
-  unfolding sizeByCrate among
+  two-crate : crateTagSize b ≡ 2
+  unfolding crateTagSize inRange
   two-crate =
       by-test (eqb b 0x1E) (λ h. rw (eqb-true b 0x1E h)) (λ h.
       let g = two-from h in
       rw (above 0 0x1D b (omega arith) (omega arith), ne-eqb b 0x80 (omega arith), above 0x81 0xFE b (omega arith) g))
 
-  two-standard : eqb (sizeByStandard b) 2 ≡ false
-  unfolding sizeByStandard among
+  two-standard : eqb (standardTagSize b) 2 ≡ false
+  unfolding standardTagSize inRange
   two-standard =
       by-test (eqb b 0x1E) (λ h. rw (eqb-true b 0x1E h)) (λ h.
       let g = two-from h in
-      rw (above 0x1F 0x7F b (omega arith) (omega arith)) (by-test (among 0x81 0xFF b) (λ k. rw k) (λ k. rw k)))
+      rw (above 0x1F 0x7F b (omega arith) (omega arith)) (by-test (inRange 0x81 0xFF b) (λ k. rw k) (λ k. rw k)))
 
--- on any other they agree
-two-alike : (b : ℕ) → partsTwo b ≡ false → sizeByCrate b ≡ sizeByStandard b
-unfolding sizeByCrate sizeByStandard
+-- on any other second or third byte they agree; on a differing third byte only the crate reading accepts it
+two-alike : (b : ℕ) → secondDiffers b ≡ false → crateTagSize b ≡ standardTagSize b
+unfolding crateTagSize standardTagSize
 two-alike b e =
-    let n = not-parted _ b e in
+    let n = neither-k-nor-ff _ b e in
     elim (decLt b 0x1F) [
       | yes p ↦ rw (inside 0 0x1D b (omega arith) (omega arith), below 0x1F 0x7F b p, below 0x81 0xFF b (omega arith))
       | no p ↦
@@ -105,26 +106,26 @@ two-alike b e =
           ]
     ]
 
-three-alike : (b : ℕ) → partsThree b ≡ false → thirdByCrate b ≡ leb b 0x7F
-unfolding thirdByCrate
+three-alike : (b : ℕ) → thirdDiffers b ≡ false → crateThirdByte b ≡ leb b 0x7F
+unfolding crateThirdByte
 three-alike b e =
-    let n = not-parted _ b e in
+    let n = neither-k-nor-ff _ b e in
     elim (decLe b 0x7F) [
       | yes p ↦ rw (below 0x81 0xFE b (omega arith), le-leb b 0x7F p)
       | no p ↦ rw (inside 0x81 0xFE b (omega arith) (omega arith), lt-leb b 0x7F (omega arith))
     ]
 
-three-differ : (b : ℕ) → partsThree b ≡ true → (thirdByCrate b ≡ true) × (leb b 0x7F ≡ false)
-unfolding thirdByCrate among
+three-differ : (b : ℕ) → thirdDiffers b ≡ true → (crateThirdByte b ≡ true) × (leb b 0x7F ≡ false)
+unfolding crateThirdByte inRange
 three-differ b e =
     by-test (eqb b 0x80) (λ h. let g : b ≡ 0x80 = eqb-true b 0x80 h in (rw g, rw g)) (λ h.
-    let g = parted _ b e (λ z. eqb-false b 0x80 h (omega (arith, z))) in
+    let g = at-least-ff _ b e (λ z. eqb-false b 0x80 h (omega (arith, z))) in
     (rw (above 0x81 0xFE b (omega arith) g), lt-leb b 0x7F (omega arith)))
 
--- a tag that the crate takes for three bytes long
-three : (b : ℕ) → eqb (sizeByCrate b) 0 ≡ false → eqb (sizeByCrate b) 2 ≡ false → among 0x81 0xFE b ≡ true
-unfolding sizeByCrate
-three b = go (among 0 0x1D b) (eqb b 0x80) (among 0x81 0xFE b)
+-- a second byte asks for a third in the crate reading exactly if it is in 81 to FE
+three-in-range : (b : ℕ) → eqb (crateTagSize b) 0 ≡ false → eqb (crateTagSize b) 2 ≡ false → inRange 0x81 0xFE b ≡ true
+unfolding crateTagSize
+three-in-range b = go (inRange 0 0x1D b) (eqb b 0x80) (inRange 0x81 0xFE b)
   where
     go : (x y z : Bool) → eqb (cond x 0 (cond y 0 (cond z 3 2))) 0 ≡ false → eqb (cond x 0 (cond y 0 (cond z 3 2))) 2 ≡ false
         → z ≡ true
@@ -133,81 +134,81 @@ three b = go (among 0 0x1D b) (eqb b 0x80) (among 0x81 0xFE b)
     go false false true h g = refl
     go false false false h g = absurd (true≢false g)
 
-threes-crate : (b : ℕ) → among 0x81 0xFE b ≡ true → sizeByCrate b ≡ 3
-unfolding sizeByCrate among
-threes-crate b h =
-    let g = both (leb 0x81 b) (leb b 0xFE) h in
+range-has-three : (b : ℕ) → inRange 0x81 0xFE b ≡ true → crateTagSize b ≡ 3
+unfolding crateTagSize inRange
+range-has-three b h =
+    let g = both-true (leb 0x81 b) (leb b 0xFE) h in
     let f : 0x81 ≤ b = leb-true 0x81 b (g .0) in
     rw (above 0 0x1D b (omega arith) (omega arith), ne-eqb b 0x80 (omega arith), h)
 
 module _ (s : List ℕ) where
-  -- where the readings do not part they read one tag
-  pub tags-alike : tagParts s ≡ false → tagOf Crate s ≡ tagOf Standard s
-  unfolding tagParts tagOf longTag threeBytes sizeBy thirdBy
+  -- if the readings do not differ they read the same tag
+  pub tags-alike : tagDiffers s ≡ false → tagOf Crate s ≡ tagOf Standard s
+  unfolding tagDiffers tagOf longTag threeBytes tagSize thirdByte
   tags-alike e =
       let b2 = getD s 1 0 in
       same-cond (ltb (length s) 1) _ _ _ _ (λ _. refl) (λ _.
       same-cond (eqb (getD s 0 0 % 32) 31) _ _ _ _ (λ f.
       same-cond (ltb (length s) 2) _ _ _ _ (λ _. refl) (λ h.
-      let n = neither (partsTwo b2) _ (rw (h, f) at e) in
+      let n = neither (secondDiffers b2) _ (rw (h, f) at e) in
       rw (← two-alike b2 (n .0))
-      (same-cond (eqb (sizeByCrate b2) 0) _ _ _ _ (λ _. refl) (λ z.
-      same-cond (eqb (sizeByCrate b2) 2) _ _ _ _ (λ _. refl) (λ w.
+      (same-cond (eqb (crateTagSize b2) 0) _ _ _ _ (λ _. refl) (λ z.
+      same-cond (eqb (crateTagSize b2) 2) _ _ _ _ (λ _. refl) (λ w.
       same-cond (ltb (length s) 3) _ _ _ _ (λ _. refl) (λ g.
-      rw (three-alike (getD s 2 0) (rw (three b2 z w, g) at (n .1)))))))))
+      rw (three-alike (getD s 2 0) (rw (three-in-range b2 z w, g) at (n .1)))))))))
       (λ _. refl))
 
-  -- where they part, one reads a tag that the other does not
+  -- if they differ, one reads a tag that the other does not read
   module _ (h : 2 ≤ length s) (f : getD s 0 0 % 32 ≡ 31) (q : tagOf Crate s ≡ tagOf Standard s) where
-    part-two : partsTwo (getD s 1 0) ≡ true → ⊥
-    unfolding sizeBy
-    part-two e =
-        let other = eqb-false (sizeByStandard (getD s 1 0)) 2 (two-standard (getD s 1 0) e) in
+    second-differs : secondDiffers (getD s 1 0) ≡ true → ⊥
+    unfolding tagSize
+    second-differs e =
+        let other = eqb-false (standardTagSize (getD s 1 0)) 2 (two-standard (getD s 1 0) e) in
         let long : All (λ t. t .size ≡ 3) (tagOf Standard s) =
         by-tag Standard s (All (λ t. t .size ≡ 3)) (λ _. tt) (λ _. tt) (λ _ n. absurd (n f)) (λ _ _ z. absurd (other z)) (λ _ _ _ _ _. refl) in
         omega (arith, all-is (λ t. t .size ≡ 3) (tagOf Standard s) _ long (sym q ∙ tag-two Crate s f h (two-crate (getD s 1 0) e)))
 
-    part-three : partsTwo (getD s 1 0) ≡ false → among 0x81 0xFE (getD s 1 0) ≡ true → 3 ≤ length s → partsThree (getD s 2 0) ≡ true → ⊥
-    unfolding sizeBy thirdBy
-    part-three e a g p =
-        let three : sizeByCrate (getD s 1 0) ≡ 3 = threes-crate (getD s 1 0) a in
-        let same : sizeByStandard (getD s 1 0) ≡ 3 = sym (two-alike (getD s 1 0) e) ∙ three in
+    third-differs : secondDiffers (getD s 1 0) ≡ false → inRange 0x81 0xFE (getD s 1 0) ≡ true → 3 ≤ length s → thirdDiffers (getD s 2 0) ≡ true → ⊥
+    unfolding tagSize thirdByte
+    third-differs e a g p =
+        let asks-third : crateTagSize (getD s 1 0) ≡ 3 = range-has-three (getD s 1 0) a in
+        let same : standardTagSize (getD s 1 0) ≡ 3 = sym (two-alike (getD s 1 0) e) ∙ asks-third in
         let d = three-differ (getD s 2 0) p in
         let none : All (λ (t : Tag). ⊥) (tagOf Standard s) =
         by-tag Standard s (All (λ (t : Tag). ⊥)) (λ _. tt) (λ _. tt) (λ _ n. n f) (λ _ _ z. omega (arith, z, same))
         (λ _ _ _ _ t. true≢false (sym t ∙ d .1)) in
-        let taken = tag-three Crate s f g (λ z. omega (arith, z, three)) (λ z. omega (arith, z, three)) (d .0) in
+        let taken = tag-three Crate s f g (λ z. omega (arith, z, asks-third)) (λ z. omega (arith, z, asks-third)) (d .0) in
         all-is (λ (t : Tag). ⊥) (tagOf Standard s) _ none (sym q ∙ taken)
 
-pub tags-part : (s : List ℕ) → tagParts s ≡ true → tagOf Crate s ≡ tagOf Standard s → ⊥
-unfolding tagParts
-tags-part s e q =
+pub differing-tags : (s : List ℕ) → tagDiffers s ≡ true → tagOf Crate s ≡ tagOf Standard s → ⊥
+unfolding tagDiffers
+differing-tags s e q =
     let b2 = getD s 1 0 in
     by-test (ltb (length s) 2) (λ h. false≢true (rw h at e)) (λ h.
     by-test (eqb (getD s 0 0 % 32) 31)
     (λ f.
     let two = ltb-false (length s) 2 h in
     let long = eqb-true (getD s 0 0 % 32) 31 f in
-    by-test (partsTwo b2) (part-two s two long q) (λ p.
-    by-test (among 0x81 0xFE b2)
+    by-test (secondDiffers b2) (second-differs s two long q) (λ p.
+    by-test (inRange 0x81 0xFE b2)
     (λ a. by-test (ltb (length s) 3) (λ g. false≢true (rw (h, f, p, a, g) at e)) (λ g.
-    part-three s two long q p a (ltb-false (length s) 3 g) (rw (h, f, p, a, g) at e)))
+    third-differs s two long q p a (ltb-false (length s) 3 g) (rw (h, f, p, a, g) at e)))
     (λ a. false≢true (rw (h, f, p, a) at e))))
     (λ f. false≢true (rw (h, f) at e)))
 
-pub tags-differ : (s : List ℕ) → Differ (tagParts s ≡ true) (tagOf Crate s) (tagOf Standard s)
-tags-differ s = record { differ = tags-part s; equal = λ h. tags-alike s (not-true-false (tagParts s) h) }
+pub tags-differ : (s : List ℕ) → Differ (tagDiffers s ≡ true) (tagOf Crate s) (tagOf Standard s)
+tags-differ s = record { differ = differing-tags s; equal = λ h. tags-alike s (not-true-false (tagDiffers s) h) }
 
-pub objects-alike : (s : List ℕ) → tagParts s ≡ false → objectOf Crate s ≡ objectOf Standard s
+pub objects-alike : (s : List ℕ) → tagDiffers s ≡ false → objectOf Crate s ≡ objectOf Standard s
 unfolding objectOf
 objects-alike s e = rw (tags-alike s e)
 
--- whether such a tag is met at one level, walked from place a of bytes l on
+-- whether such a tag is met at one level, walked from place a of the bytes l on
 module _ (t : ℕ) (l : List ℕ) where
   abbrev Met : ℕ → List ℕ → Bool
   Met a s = meetsOf l t (walk Crate a s .items) (walk Crate a s .stop)
 
-  -- where none of those tags is met the readings look up alike
+  -- if none of these tags is met, the lookups of both readings agree
   abbrev Alike : ℕ → List ℕ → Type 0
   Alike a s = (b : ℕ) → drop a l ≡ s → Met a s ≡ false → seek Crate t b s ≡ seek Standard t b s
 
@@ -216,28 +217,28 @@ module _ (t : ℕ) (l : List ℕ) where
   level-alike =
       by-objects Crate Alike
       (λ a s k e b d m.
-      let none : tagParts (drop a l) ≡ false = rw (walk-no Crate a s k e) at m in
+      let none : tagDiffers (drop a l) ≡ false = rw (walk-refused Crate a s k e) at m in
       let same = objects-alike s (rw d at none) in
-      seek-no Crate t b s k e ∙ sym (seek-no Standard t b s k (sym same ∙ e)))
+      seek-refused Crate t b s k e ∙ sym (seek-refused Standard t b s k (sym same ∙ e)))
       (λ a s o e w deeper b d m.
-      let n = neither (tagParts (drop a l)) _ (rw (walk-met Crate a s o e) at m) in
+      let n = neither (tagDiffers (drop a l)) _ (rw (walk-met Crate a s o e) at m) in
       let same = objects-alike s (rw d at (n .0)) in
       rw (seek-is Crate t b s o e, seek-is Standard t b s o (sym same ∙ e))
       (same-cond (eqb (o .tag) t) _ _ _ _ (λ _. refl) (λ h.
       deeper (b + sizeOf o) (sym (drop-drop (sizeOf o) a l) ∙ ap (drop (sizeOf o)) d) (rw h at (n .1)))))
 
-  -- none is met where none stands behind whole objects without the tag (in which the tag is refused with 11)
+  -- none is met if none stands after whole objects without the tag (bytes in which the tag is refused with 11)
   abbrev None : ℕ → List ℕ → Type 0
   None a s =
-      drop a l ≡ s → ((x y : List ℕ) → s ≡ x ++ y → lookup Crate x (t ∷ []) ≡ refused 11 → tagParts y ≡ false) → Met a s ≡ false
+      drop a l ≡ s → ((x y : List ℕ) → s ≡ x ++ y → lookup Crate x (t ∷ []) ≡ refused 11 → tagDiffers y ≡ false) → Met a s ≡ false
 
 level-none : (t : ℕ) (l : List ℕ) (a : ℕ) (s : List ℕ) → None t l a s
 unfolding meetsOf
 level-none t l =
     by-objects Crate (None t l)
     (λ a s k e d h.
-    let none : tagParts (drop a l) ≡ false = rw d (h [] s refl (walked-none Crate t)) in
-    rw (walk-no Crate a s k e) none)
+    let none : tagDiffers (drop a l) ≡ false = rw d (h [] s refl (walked-none Crate t)) in
+    rw (walk-refused Crate a s k e) none)
     (λ a s o e w deeper d h.
     let k = sizeOf o in
     rw (walk-met Crate a s o e, d, h [] s refl (walked-none Crate t))
@@ -254,14 +255,14 @@ follow-alike s p (t ∷ path) e =
     let x = seek Crate t (p .at) (part s p) in
     let m = neither (meetsAt t (part s p)) (ofValue x false (λ q. meetsFrom s q path)) e in
     rw (← level-alike t (part s p) 0 (part s p) (p .at) refl (m .0))
-    (then-same (λ q. x ≡ is q) x _ _ (all-self x) (λ q h. follow-alike s q path (rw h at (m .1))))
+    (then-same (λ q. x ≡ ok q) x _ _ (all-self x) (λ q h. follow-alike s q path (rw h at (m .1))))
 
 pub lookups-alike : (s path : List ℕ) → meets s path ≡ false → lookup Crate s path ≡ lookup Standard s path
-lookups-alike s path = follow-alike s (whole s) path
+lookups-alike s path = follow-alike s (wholeRecord s) path
 
 path-none : (s : List ℕ) (p : Span) (path : List ℕ)
-    → ((front rest : List ℕ) (t : ℕ) (q : Span) (x y : List ℕ) → path ≡ front ++ (t ∷ rest) → follow Crate s p front ≡ is q
-    → part s q ≡ x ++ y → lookup Crate x (t ∷ []) ≡ refused 11 → tagParts y ≡ false)
+    → ((front rest : List ℕ) (t : ℕ) (q : Span) (x y : List ℕ) → path ≡ front ++ (t ∷ rest) → follow Crate s p front ≡ ok q
+    → part s q ≡ x ++ y → lookup Crate x (t ∷ []) ≡ refused 11 → tagDiffers y ≡ false)
     → meetsFrom s p path ≡ false
 unfolding meetsFrom meetsAt follow
 path-none s p [] h = refl
@@ -272,9 +273,9 @@ path-none s p (t ∷ path) h =
     h (t ∷ front) rest u m x y (ap (λ (l : List ℕ). t ∷ l) parts) (rw e entered))))
     (λ k e. rw e))
 
--- so none is met where none stands at a place to which the lookup comes, at any level of the path
+-- so none is met if none stands at a place to which the lookup comes, at any level of the path
 pub meets-none : (s path : List ℕ)
-    → ((front rest : List ℕ) (t : ℕ) (p : Span) (x y : List ℕ) → path ≡ front ++ (t ∷ rest) → lookup Crate s front ≡ is p
-    → part s p ≡ x ++ y → lookup Crate x (t ∷ []) ≡ refused 11 → tagParts y ≡ false)
+    → ((front rest : List ℕ) (t : ℕ) (p : Span) (x y : List ℕ) → path ≡ front ++ (t ∷ rest) → lookup Crate s front ≡ ok p
+    → part s p ≡ x ++ y → lookup Crate x (t ∷ []) ≡ refused 11 → tagDiffers y ≡ false)
     → meets s path ≡ false
-meets-none s path = path-none s (whole s) path
+meets-none s path = path-none s (wholeRecord s) path

@@ -1,5 +1,5 @@
--- A lookup does not see the values that it passes over, nor what lies behind the part that it enters last, and finds nothing there:
--- document 01, "BER records". Assumes nothing.
+-- A lookup does not see the values that it passes over, nor what stands after the part that it enters last, and finds
+-- nothing there (rules 6.11 and 6.14).
 use Prim.Native.Nat.{ℕ, _+_, _≤_, _<_}
 use mathlib.Core.Path.{_≡_, refl, sym, ap, _∙_}
 use mathlib.Core.Bool.{true, false, cond}
@@ -10,39 +10,39 @@ use lib.Dec.{eqb}
 use lib.ListN.{length, getD, take, drop, length-take, length-drop}
 use lib.Seq.{getD-take, getD-drop, ext-getD, length-take-le}
 use borrow.Author.Tests.{lt-ltb, ne-eqb}
-use Rattle.basis.specs.Reply.{is, no as refused}
-use Rattle.basis.proofs.Reply.{All, by-reply, all-is, all-cond, all-weaken, then-same, no-is, all-self, all-both}
+use Rattle.basis.specs.Reply.{ok, refused}
+use Rattle.basis.proofs.Reply.{All, by-reply, all-is, all-cond, all-weaken, then-same, refused-not-ok, all-self, all-both}
 use Rattle.basis.proofs.Truth.{on-cond}
 use Rattle.tlv.specs.Object.{Object, sizeOf, objectOf}
-use Rattle.tlv.specs.Lookup.{Span, part, whole, seek, follow, lookup}
+use Rattle.tlv.specs.Lookup.{Span, part, wholeRecord, seek, follow, lookup}
 use Rattle.tlv.specs.declared.Reading.{Reading}
-use Rattle.tlv.proofs.Walk.{walk-no, walk-met, by-objects, seek-no, seek-is, Lies, seek-inside}
+use Rattle.tlv.proofs.Walk.{walk-refused, walk-met, by-objects, seek-refused, seek-is, Lies, seek-inside}
 use Rattle.basis.specs.Every.{Every}
 use Rattle.basis.proofs.Every.{every-append, every-weaken}
-use Rattle.tlv_laws.specs.Skipped.{passedOf, passedAt, passedFrom, passed, lastFrom, lastEntered, past}
+use Rattle.tlv_laws.specs.Skipped.{passedOf, passedAt, passedFrom, passed, lastFrom, lastEntered, endOf}
 use Rattle.tlv_laws.specs.Skipped.{covers, coveredBy, seenTo, seen}
-use Rattle.tlv_laws.proofs.Choice.{by-test, same-cond}
-use Rattle.tlv_laws.proofs.Front.{object-front}
-use Rattle.tlv_laws.proofs.Behind.{follow-inside}
-use Rattle.tlv_laws.proofs.Covered.{Before, covers-ahead, covers-behind, uncovered, uncovered-append}
+use Rattle.tlv_laws.proofs.TruthValues.{by-test, same-cond}
+use Rattle.tlv_laws.proofs.FrontOfBytes.{object-front}
+use Rattle.tlv_laws.proofs.AfterMatch.{follow-inside}
+use Rattle.tlv_laws.proofs.Covered.{Before, covers-ahead, covers-after, uncovered, uncovered-append}
 use Rattle.tlv_laws.proofs.Covered.{covered-left, covered-right, covered-before}
 
 passed-no : (r : Reading) (t a : ℕ) (s : List ℕ) (k : ℕ) → objectOf r s ≡ refused k → passedAt r t a s ≡ []
 unfolding passedAt passedOf
-passed-no r t a s k e = rw (walk-no r a s k e)
+passed-no r t a s k e = rw (walk-refused r a s k e)
 
-passed-is : (r : Reading) (t a : ℕ) (s : List ℕ) (o : Object) → objectOf r s ≡ is o
+passed-is : (r : Reading) (t a : ℕ) (s : List ℕ) (o : Object) → objectOf r s ≡ ok o
     → passedAt r t a s
     ≡ cond (eqb (o .tag) t) [] (record { at = a + o .at; len = o .len } ∷ passedAt r t (a + sizeOf o) (drop (sizeOf o) s))
 unfolding passedAt passedOf
 passed-is r t a s o e = rw (walk-met r a s o e)
 
--- the value of an object with another tag, by its place and length, is one of those passed over
-pub passed-next : (r : Reading) (t a : ℕ) (s : List ℕ) (o : Object) → objectOf r s ≡ is o → (o .tag ≡ t → ⊥)
+-- the value of an object with another tag is passed over, and then what is passed over after it
+pub passed-next : (r : Reading) (t a : ℕ) (s : List ℕ) (o : Object) → objectOf r s ≡ ok o → (o .tag ≡ t → ⊥)
     → passedAt r t a s ≡ record { at = a + o .at; len = o .len } ∷ passedAt r t (a + (o .at + o .len)) (drop (o .at + o .len) s)
 passed-next r t a s o e h = rw (passed-is r t a s o e, ne-eqb (o .tag) t h)
 
--- two lists with one byte at each of the first k places
+-- two lists with the same byte at each of the first k places
 pub take-same : (k : ℕ) (s s′ : List ℕ) → k ≤ length s → k ≤ length s′ → ((i : ℕ) → i < k → getD s i 0 ≡ getD s′ i 0)
     → take k s ≡ take k s′
 take-same k s s′ h g same =
@@ -52,7 +52,7 @@ take-same k s s′ h g same =
     getD-take k s i 0 m ∙ same i m ∙ sym (getD-take k s′ i 0 m))
 
 module _ (r : Reading) (t : ℕ) where
-  -- at one level: what is passed over lies in the bytes searched, and before the value found
+  -- at one level: what is passed over stands in the bytes searched, and before the value found
   passed-within : (a : ℕ) (s : List ℕ) → Every (Lies a (a + length s)) (passedAt r t a s)
   passed-within =
       by-objects r (λ a s. Every (Lies a (a + length s)) (passedAt r t a s)) (λ a s k e. rw (passed-no r t a s k e) tt)
@@ -70,7 +70,7 @@ module _ (r : Reading) (t : ℕ) where
 
   passed-before : (a : ℕ) (s : List ℕ) → All (Ahead a s) (seek r t a s)
   passed-before =
-      by-objects r (λ a s. All (Ahead a s) (seek r t a s)) (λ a s k e. rw (seek-no r t a s k e) tt) (λ a s o e w deeper.
+      by-objects r (λ a s. All (Ahead a s) (seek r t a s)) (λ a s k e. rw (seek-refused r t a s k e) tt) (λ a s o e w deeper.
       let b = a + sizeOf o in
       let rest = drop (sizeOf o) s in
       rw (seek-is r t a s o e) (all-cond (Ahead a s) (eqb (o .tag) t) _ _
@@ -78,19 +78,19 @@ module _ (r : Reading) (t : ℕ) where
       (λ h. all-weaken (Ahead a s) (Ahead b rest) (seek r t b rest)
       (λ p f. (omega arith, rw (passed-is r t a s o e, h) (omega arith, f .1))) deeper)))
 
-  level-before : (a : ℕ) (s : List ℕ) (p : Span) → seek r t a s ≡ is p → Every (Before p) (passedAt r t a s)
+  level-before : (a : ℕ) (s : List ℕ) (p : Span) → seek r t a s ≡ ok p → Every (Before p) (passedAt r t a s)
   level-before a s p e = all-is (Ahead a s) (seek r t a s) p (passed-before a s) e .1
 
   -- a place that this level looks at: outside of what is passed over, and before the value found
   abbrev Looked : ℕ → List ℕ → ℕ → Type 0
   Looked a s i = (coveredBy (passedAt r t a s) i ≡ false) × All (λ p. i < p .at) (seek r t a s)
 
-  -- it looks at a front that is no object, at an object's tag and length, and at what it looks at further on
+  -- it looks at bytes that are no object, at the tag and the length of an object, and further on after an object
   looked-no : (a : ℕ) (s : List ℕ) (k i : ℕ) → objectOf r s ≡ refused k → Looked a s i
   unfolding coveredBy
-  looked-no a s k i e = rw (passed-no r t a s k e, seek-no r t a s k e) (refl, tt)
+  looked-no a s k i e = rw (passed-no r t a s k e, seek-refused r t a s k e) (refl, tt)
 
-  module _ (a : ℕ) (s : List ℕ) (o : Object) (i : ℕ) (e : objectOf r s ≡ is o) where
+  module _ (a : ℕ) (s : List ℕ) (o : Object) (i : ℕ) (e : objectOf r s ≡ ok o) where
     looked-head : i < a + o .at → Looked a s i
     unfolding coveredBy
     looked-head h =
@@ -107,9 +107,9 @@ module _ (r : Reading) (t : ℕ) where
     looked-rest : eqb (o .tag) t ≡ false → a + sizeOf o ≤ i → Looked (a + sizeOf o) (drop (sizeOf o) s) i → Looked a s i
     unfolding coveredBy
     looked-rest g h l =
-        rw (passed-is r t a s o e, seek-is r t a s o e, g, covers-behind (record { at = a + o .at; len = o .len }) i (omega arith)) l
+        rw (passed-is r t a s o e, seek-is r t a s o e, g, covers-after (record { at = a + o .at; len = o .len }) i (omega arith)) l
 
-  -- bytes that agree wherever this level looks
+  -- bytes that agree at every place that this level looks at
   abbrev Unseen : ℕ → List ℕ → Type 0
   Unseen a s =
       (s′ : List ℕ) → length s′ ≡ length s → ((i : ℕ) → i < length s → Looked a s (a + i) → getD s′ i 0 ≡ getD s i 0)
@@ -130,13 +130,13 @@ module _ (r : Reading) (t : ℕ) where
       getD-drop k s′ i 0 ∙ same (k + i) below (looked-rest a s o (a + (k + i)) e g (omega arith) (rw add-assoc at l))
       ∙ sym (getD-drop k s i 0)))))
 
--- along a path: an empty one passes over nothing; where the first tag is found, the values of its level are passed over and those
--- that the rest of the path passes over from the value found on; where it is refused, the values of its level
+-- along a path: an empty path passes over nothing. If the first tag is refused, the values of its level are passed
+-- over. If it is found, these and then those that the rest of the path passes over in the value found
 pub passed-nothing : (r : Reading) (s : List ℕ) (p : Span) → passedFrom r s p [] ≡ []
 unfolding passedFrom
 passed-nothing r s p = refl
 
-pub passed-found : (r : Reading) (s : List ℕ) (p : Span) (t : ℕ) (path : List ℕ) (q : Span) → seek r t (p .at) (part s p) ≡ is q
+pub passed-found : (r : Reading) (s : List ℕ) (p : Span) (t : ℕ) (path : List ℕ) (q : Span) → seek r t (p .at) (part s p) ≡ ok q
     → passedFrom r s p (t ∷ path) ≡ passedAt r t (p .at) (part s p) ++ passedFrom r s q path
 unfolding passedFrom
 passed-found r s p t path q e = rw e
@@ -146,7 +146,7 @@ pub passed-refused : (r : Reading) (s : List ℕ) (p : Span) (t : ℕ) (path : L
 unfolding passedFrom
 passed-refused r s p t path k e = rw (e, append-nil)
 
--- what is passed over lies behind the start of the part that the path starts from
+-- what is passed over does not stand before the part in which the path starts
 passed-from : (r : Reading) (s : List ℕ) (p : Span) (path : List ℕ) → Every (λ q. p .at ≤ q .at) (passedFrom r s p path)
 passed-from r s p [] = rw (passed-nothing r s p) tt
 passed-from r s p (t ∷ path) =
@@ -161,7 +161,7 @@ passed-from r s p (t ∷ path) =
     (every-weaken F (λ q. m .at ≤ q .at) deeper (λ q h. omega arith) (passed-from r s m path))))
     (λ k e. rw (passed-refused r s p t path k e) level)
 
--- and before the value found
+-- it stands before the value found
 follow-outside : (r : Reading) (s : List ℕ) (p : Span) (path : List ℕ)
     → All (λ q. Every (Before q) (passedFrom r s p path)) (follow r s p path)
 unfolding follow
@@ -180,16 +180,16 @@ follow-outside r s p (t ∷ path) =
     (all-both L (λ q. Every (Before q) deeper) y (follow-inside r s m path) (follow-outside r s m path))))
     (λ k e. rw e tt)
 
-pub lookup-outside : (r : Reading) (s path : List ℕ) (p : Span) → lookup r s path ≡ is p → Every (Before p) (passed r s path)
+pub lookup-outside : (r : Reading) (s path : List ℕ) (p : Span) → lookup r s path ≡ ok p → Every (Before p) (passed r s path)
 lookup-outside r s path p e =
-    all-is (λ p. Every (Before p) (passed r s path)) (lookup r s path) p (follow-outside r s (whole s) path) e
+    all-is (λ p. Every (Before p) (passed r s path)) (lookup r s path) p (follow-outside r s (wholeRecord s) path) e
 
--- a value found does not lie in a value passed over: every place of those stands before it
-pub found-outside : (r : Reading) (s path : List ℕ) (p : Span) → lookup r s path ≡ is p → (i : ℕ)
+-- the value found does not lie in a value passed over: every place of those stands before it
+pub found-outside : (r : Reading) (s path : List ℕ) (p : Span) → lookup r s path ≡ ok p → (i : ℕ)
     → coveredBy (passed r s path) i ≡ true → i < p .at
 found-outside r s path p e i = covered-before p (passed r s path) i (lookup-outside r s path p e)
 
--- the places passed over by a path: those of its first level, and those from the value on that this level finds
+-- the places that a path passes over: those of its first level, and those of its rest in the value found there
 module _ (r : Reading) (s : List ℕ) (i : ℕ) where
   pub passed-level : (p : Span) (t : ℕ) (path : List ℕ) → coveredBy (passedAt r t (p .at) (part s p)) i ≡ true
       → coveredBy (passedFrom r s p (t ∷ path)) i ≡ true
@@ -199,22 +199,22 @@ module _ (r : Reading) (s : List ℕ) (i : ℕ) where
       (λ q e. rw (passed-found r s p t path q e) (covered-left here (passedFrom r s q path) i h))
       (λ k e. rw (passed-refused r s p t path k e) h)
 
-  pub passed-deeper : (p : Span) (t : ℕ) (path : List ℕ) (q : Span) → seek r t (p .at) (part s p) ≡ is q
+  pub passed-deeper : (p : Span) (t : ℕ) (path : List ℕ) (q : Span) → seek r t (p .at) (part s p) ≡ ok q
       → coveredBy (passedFrom r s q path) i ≡ true → coveredBy (passedFrom r s p (t ∷ path)) i ≡ true
   passed-deeper p t path q e h =
       rw (passed-found r s p t path q e) (covered-right (passedAt r t (p .at) (part s p)) (passedFrom r s q path) i h)
 
-  -- so from every value that the front of a path leads to
-  pub passed-entered : (front rest : List ℕ) (p q : Span) → follow r s p front ≡ is q → coveredBy (passedFrom r s q rest) i ≡ true
+  -- the same for the value that the first tags of a path lead to
+  pub passed-entered : (front rest : List ℕ) (p q : Span) → follow r s p front ≡ ok q → coveredBy (passedFrom r s q rest) i ≡ true
       → coveredBy (passedFrom r s p (front ++ rest)) i ≡ true
   unfolding follow
   passed-entered [] rest p q e h = let same : p ≡ q = cc in rw same h
   passed-entered (t ∷ front) rest p q e h =
       by-reply (seek r t (p .at) (part s p))
       (λ m g. passed-deeper p t (front ++ rest) m g (passed-entered front rest m q (rw g at e) h))
-      (λ k g. absurd (no-is k q (rw g at e)))
+      (λ k g. absurd (refused-not-ok k q (rw g at e)))
 
--- the part entered last: the value found, and for a refusal the part in which a tag of the path was refused
+-- the part entered last: the value found, or the part in which a tag of the path is refused
 last-append : (r : Reading) (s : List ℕ) (p : Span) (path rest : List ℕ)
     → All (λ q. lastFrom r s p (path ++ rest) ≡ lastFrom r s q rest) (follow r s p path)
 unfolding lastFrom follow
@@ -222,10 +222,10 @@ last-append r s p [] rest = refl
 last-append r s p (t ∷ path) rest =
     by-reply (seek r t (p .at) (part s p)) (λ m e. rw e (last-append r s m path rest)) (λ k e. rw e tt)
 
-module _ (r : Reading) (s path : List ℕ) (p : Span) (e : lookup r s path ≡ is p) where
+module _ (r : Reading) (s path : List ℕ) (p : Span) (e : lookup r s path ≡ ok p) where
   last-rest : (rest : List ℕ) → lastEntered r s (path ++ rest) ≡ lastFrom r s p rest
   last-rest rest =
-      all-is (λ q. lastEntered r s (path ++ rest) ≡ lastFrom r s q rest) (lookup r s path) p (last-append r s (whole s) path rest) e
+      all-is (λ q. lastEntered r s (path ++ rest) ≡ lastFrom r s q rest) (lookup r s path) p (last-append r s (wholeRecord s) path rest) e
 
   pub last-found : lastEntered r s path ≡ p
   unfolding lastFrom
@@ -235,7 +235,7 @@ module _ (r : Reading) (s path : List ℕ) (p : Span) (e : lookup r s path ≡ i
   unfolding lastFrom
   last-refused t k rest h = last-rest (t ∷ rest) ∙ rw h
 
--- it starts in the part that the path starts from
+-- it does not start before the part in which the path starts
 last-from : (r : Reading) (s : List ℕ) (p : Span) (path : List ℕ) → p .at ≤ lastFrom r s p path .at
 unfolding lastFrom
 last-from r s p [] = omega arith
@@ -248,13 +248,13 @@ last-from r s p (t ∷ path) =
     (λ k e. rw e (omega arith))
 
 module _ (r : Reading) (s : List ℕ) where
-  -- a place that the path from p on looks at: one that its first level looks at, or a deeper one
+  -- a place that the path from p on looks at: its first level looks at it, or a deeper level
   abbrev LookedFrom : Span → List ℕ → ℕ → Type 0
   LookedFrom p path i =
-      (coveredBy (passedFrom r s p path) i ≡ false) × (i < past (lastFrom r s p path)) × All (λ q. i < q .at) (follow r s p path)
+      (coveredBy (passedFrom r s p path) i ≡ false) × (i < endOf (lastFrom r s p path)) × All (λ q. i < q .at) (follow r s p path)
 
   module _ (p : Span) (t : ℕ) (path : List ℕ) (i : ℕ) where
-    looked-level : i < past p → Looked r t (p .at) (part s p) i → LookedFrom p (t ∷ path) i
+    looked-level : i < endOf p → Looked r t (p .at) (part s p) i → LookedFrom p (t ∷ path) i
     unfolding follow coveredBy lastFrom
     looked-level h l =
         let x = seek r t (p .at) (part s p) in
@@ -272,18 +272,18 @@ module _ (r : Reading) (s : List ℕ) where
         ))
         (λ k e. rw (passed-refused r s p t path k e, e) (l .0, h, tt))
 
-    looked-deeper : (m : Span) → seek r t (p .at) (part s p) ≡ is m → m .at ≤ i → LookedFrom m path i → LookedFrom p (t ∷ path) i
+    looked-deeper : (m : Span) → seek r t (p .at) (part s p) ≡ ok m → m .at ≤ i → LookedFrom m path i → LookedFrom p (t ∷ path) i
     unfolding follow lastFrom
     looked-deeper m e h l =
         let here = passedAt r t (p .at) (part s p) in
         rw (passed-found r s p t path m e, e) (
           uncovered-append here (passedFrom r s m path) i (uncovered here i (every-weaken (λ q. covers q i ≡ false) (Before m) here
-              (λ q g. covers-behind q i (omega arith)) (level-before r t (p .at) (part s p) m e))) (l .0),
+              (λ q g. covers-after q i (omega arith)) (level-before r t (p .at) (part s p) m e))) (l .0),
           l .1,
           l .2,
         )
 
-  -- a record of that length that agrees wherever the path looks
+  -- a record of the same length that agrees at every place that the path looks at
   module _ (s′ : List ℕ) (long : length s′ ≡ length s) where
     follow-unseen : (path : List ℕ) (p : Span) → p .at + p .len ≤ length s
         → ((i : ℕ) → p .at ≤ i → i < p .at + p .len → LookedFrom p path i → getD s′ i 0 ≡ getD s i 0)
@@ -301,25 +301,25 @@ module _ (r : Reading) (s : List ℕ) where
         let level : seek r t (p .at) b′ ≡ x = seek-unseen r t (p .at) b b′ size′ (λ i g l.
         byte s′ i (omega arith) ∙ same (p .at + i) (omega arith) (omega arith) (looked-level p t path (p .at + i) (omega arith) l)
         ∙ sym (byte s i (omega arith))) in
-        rw level (then-same (λ m. x ≡ is m) x _ _ (all-self x) (λ m e.
+        rw level (then-same (λ m. x ≡ ok m) x _ _ (all-self x) (λ m e.
         let w = seek-inside r b t (p .at) m e in
         follow-unseen path m (omega arith) (λ i g f l. same i (omega arith) (omega arith) (looked-deeper p t path i m e g l))))
 
 -- the place up to which a lookup looks
-pub to-found : (r : Reading) (s path : List ℕ) (p : Span) → lookup r s path ≡ is p → seenTo r s path ≡ p .at
-to-found r s path p e = rw e (omega arith)
+pub seen-to-found : (r : Reading) (s path : List ℕ) (p : Span) → lookup r s path ≡ ok p → seenTo r s path ≡ p .at
+seen-to-found r s path p e = rw e (omega arith)
 
-pub to-refused : (r : Reading) (s path : List ℕ) (k : ℕ) → lookup r s path ≡ refused k
+pub seen-to-refused : (r : Reading) (s path : List ℕ) (k : ℕ) → lookup r s path ≡ refused k
     → seenTo r s path ≡ lastEntered r s path .at + lastEntered r s path .len
-to-refused r s path k e = rw e (omega arith)
+seen-to-refused r s path k e = rw e (omega arith)
 
--- a lookup depends only on the bytes that it looks at: those outside of the values passed over and before the value found; where it
--- is refused, before the end of the part entered last
+-- a lookup depends only on the bytes that it looks at: those outside of the values passed over, and before the value
+-- found or, if it is refused, before the end of the part entered last
 pub unseen : (r : Reading) (s s′ path : List ℕ) → length s′ ≡ length s
     → ((i : ℕ) → i < length s → seen r s path i ≡ true → getD s′ i 0 ≡ getD s i 0) → lookup r s′ path ≡ lookup r s path
 unseen r s s′ path long same =
-    rw long (follow-unseen r s s′ long path (whole s) (omega arith) (λ i _ h l.
+    rw long (follow-unseen r s s′ long path (wholeRecord s) (omega arith) (λ i _ h l.
     let before : i < seenTo r s path = by-reply (lookup r s path)
-    (λ p e. omega (arith, to-found r s path p e, all-is (λ q. i < q .at) (lookup r s path) p (l .2) e))
-    (λ k e. omega (arith, to-refused r s path k e)) in
+    (λ p e. omega (arith, seen-to-found r s path p e, all-is (λ q. i < q .at) (lookup r s path) p (l .2) e))
+    (λ k e. omega (arith, seen-to-refused r s path k e)) in
     same i (omega arith) (rw (l .0) (lt-ltb i (seenTo r s path) before))))

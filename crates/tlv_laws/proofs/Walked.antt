@@ -1,5 +1,4 @@
--- A walk is the reading of a record object by object, and nothing else is. Document 01, "BER records" (lookup of a path) and "Numbers of
--- refusal" (11, 12). Assumes nothing.
+-- A walk is the reading of a record object by object, and nothing else is (rules 6.11, 1.11 and 1.12).
 use Prim.Native.Nat.{ℕ, _+_, _-_, _≤_, _<_}
 use mathlib.Core.Path.{_≡_, refl, sym, ap, _∙_}
 use mathlib.Core.Logic.{_⊎_, inl, inr}
@@ -8,39 +7,39 @@ use native.Mathlib.Nat.{add-assoc, add-sub-cancel-left}
 use native.Mathlib.Omega.{arith}
 use lib.ListN.{length, drop, length-drop}
 use lib.Seq.{drop-drop}
-use Rattle.basis.specs.Reply.{is}
+use Rattle.basis.specs.Reply.{ok}
 use Rattle.tlv.specs.Object.{Object, sizeOf}
-use Rattle.tlv.specs.Walk.{Item, Stop, Walk, itemAt, met, walk}
+use Rattle.tlv.specs.Walk.{Item, Stop, Walk, itemAt, withItem, walk}
 use Rattle.tlv.specs.declared.Reading.{Reading}
-use Rattle.tlv.proofs.Walk.{walk-no, walk-met, by-objects}
+use Rattle.tlv.proofs.Walk.{walk-refused, walk-met, by-objects}
 use Rattle.tlv_laws.specs.Walked.{ReadOn}
 use Rattle.tlv_laws.proofs.Boundary.{refused-where}
 
 module _ (r : Reading) (l : List ℕ) where
-  -- bytes s that stand in l from place a on
+  -- the walk of bytes s that stand in l from place a on
   read-on : (a : ℕ) (s : List ℕ) → drop a l ≡ s → ReadOn r l a (walk r a s .items) (walk r a s .stop)
   read-on =
       by-objects r (λ a s. drop a l ≡ s → ReadOn r l a (walk r a s .items) (walk r a s .stop))
-      (λ a s k e d. rw (walk-no r a s k e) (omega arith, rw d e)) (λ a s o e w deeper d.
-      let behind = deeper (sym (drop-drop (sizeOf o) a l) ∙ ap (drop (sizeOf o)) d) in
-      rw (walk-met r a s o e) (omega arith, omega arith, rw (d, add-sub-cancel-left) e, rw add-assoc behind))
+      (λ a s k e d. rw (walk-refused r a s k e) (omega arith, rw d e)) (λ a s o e w deeper d.
+      let afterLast = deeper (sym (drop-drop (sizeOf o) a l) ∙ ap (drop (sizeOf o)) d) in
+      rw (walk-met r a s o e) (omega arith, omega arith, rw (d, add-sub-cancel-left) e, rw add-assoc afterLast))
 
   pub walk-reads : (a : ℕ) → ReadOn r l a (walk r a (drop a l) .items) (walk r a (drop a l) .stop)
   walk-reads a = read-on a (drop a l) refl
 
-  -- objects and a stop that are so read are those of the walk
+  -- objects and a stop that are read in this way are those of the walk
   read-only : (items : List Item) (e : Stop) (a : ℕ) → ReadOn r l a items e → record { items = items; stop = e } ≡ walk r a (drop a l)
   read-only [] e a h =
       ap (λ (b : ℕ). record { items = []; stop = record { number = e .number; place = b } }) (h .0)
-      ∙ sym (walk-no r a (drop a l) (e .number) (h .1))
+      ∙ sym (walk-refused r a (drop a l) (e .number) (h .1))
   read-only (i ∷ rest) e a h =
       let o : Object = record { tag = i .tag; at = i .at - a; len = i .len } in
       let end : a + sizeOf o ≡ i .at + i .len = omega arith in
       let at : a + o .at ≡ i .at = omega arith in
       let item : i ≡ itemAt a o = λ j. record { place = h .0 j; tag = i .tag; at = sym at j; len = i .len } in
-      let behind : record { items = rest; stop = e } ≡ walk r (a + sizeOf o) (drop (sizeOf o) (drop a l)) =
+      let afterLast : record { items = rest; stop = e } ≡ walk r (a + sizeOf o) (drop (sizeOf o) (drop a l)) =
       rw (drop-drop (sizeOf o) a l, end) (read-only rest e (i .at + i .len) (h .3)) in
-      (λ j. met (item j) (behind j)) ∙ sym (walk-met r a (drop a l) o (h .2))
+      (λ j. withItem (item j) (afterLast j)) ∙ sym (walk-met r a (drop a l) o (h .2))
 
   pub walk-only : (a : ℕ) (w : Walk) → ReadOn r l a (w .items) (w .stop) → w ≡ walk r a (drop a l)
   walk-only a w = read-only (w .items) (w .stop) a
@@ -53,7 +52,7 @@ pub walk-stops : (r : Reading) (a : ℕ) (s : List ℕ) → Stops a (length s) (
 walk-stops r =
     by-objects r (λ a s. Stops a (length s) (walk r a s .stop))
     (λ a s k e.
-    rw (walk-no r a s k e) (elim (refused-where r s k e) [ inl h ↦ inl (h .0, omega arith) | inr h ↦ inr (h .0, omega arith, omega arith) ]))
+    rw (walk-refused r a s k e) (elim (refused-where r s k e) [ inl h ↦ inl (h .0, omega arith) | inr h ↦ inr (h .0, omega arith, omega arith) ]))
     (λ a s o e w deeper.
     rw (walk-met r a s o e) (elim deeper [
       | inl h ↦ inl (h .0, omega (arith, h .1, length-drop (sizeOf o) s))

@@ -1,17 +1,16 @@
--- The values that a lookup passes over, what lies behind the part that it enters last, and a record with other bytes there.
--- Document 01, "BER records" (lookup of a path) and "Mistakes a reader would make": a record is walked object by object, never
--- searched for a tag's bytes.
+-- The values that a lookup passes over, what stands after the part that it enters last, and a record with other bytes
+-- there (rules 6.11, 6.14 and 11.12): a record is walked object by object, never searched for the bytes of a tag.
 use Prim.Native.Nat.{ℕ, suc, _+_}
 use mathlib.Core.Bool.{Bool, true, false, cond}
 use mathlib.Core.List.{List, [], _∷_, _++_}
 use lib.Dec.{ltb, leb, eqb}
 use lib.ListN.{length}
 use Rattle.tlv.specs.Walk.{Item, walk}
-use Rattle.tlv.specs.Lookup.{Span, part, between, whole, valueOf, seek, lookup}
+use Rattle.tlv.specs.Lookup.{Span, part, between, wholeRecord, valueOf, seek, lookup}
 use Rattle.tlv.specs.declared.Reading.{Reading}
 use Rattle.tlv_laws.specs.Value.{ofValue}
 
--- the values of those objects of a walk that stand in front of the first with the tag
+-- the values of the objects of a walk that stand before the first object with the tag
 unfoldable pub passedOf : ℕ → List Item → List Span
 passedOf t [] = []
 passedOf t (i ∷ rest) = cond (eqb (i .tag) t) [] (valueOf i ∷ passedOf t rest)
@@ -26,21 +25,22 @@ passedFrom r s p [] = []
 passedFrom r s p (t ∷ path) =
     passedAt r t (p .at) (part s p) ++ ofValue (seek r t (p .at) (part s p)) [] (λ q. passedFrom r s q path)
 
+-- the values that a lookup passes over (rule 6.11)
 abbrev pub passed : Reading → List ℕ → List ℕ → List Span
-passed r s path = passedFrom r s (whole s) path
+passed r s path = passedFrom r s (wholeRecord s) path
 
--- the part that a path enters last, from a part of the record on: the value found, or the part in which a tag is refused
+-- the part that a path enters last, from a part p on: the value found, or the part in which a tag is refused
 unfoldable pub lastFrom : Reading → List ℕ → Span → List ℕ → Span
 lastFrom r s p [] = p
 lastFrom r s p (t ∷ path) = ofValue (seek r t (p .at) (part s p)) p (λ q. lastFrom r s q path)
 
--- the whole record, where no object was entered
+-- the part that a lookup enters last; the whole record if it enters no object
 abbrev pub lastEntered : Reading → List ℕ → List ℕ → Span
-lastEntered r s path = lastFrom r s (whole s) path
+lastEntered r s path = lastFrom r s (wholeRecord s) path
 
--- the place behind a part
-abbrev pub past : Span → ℕ
-past p = p .at + p .len
+-- the place after a part
+abbrev pub endOf : Span → ℕ
+endOf p = p .at + p .len
 
 -- whether a place lies in a part, and in one of several
 unfoldable pub covers : Span → ℕ → Bool
@@ -50,26 +50,26 @@ unfoldable pub coveredBy : List Span → ℕ → Bool
 coveredBy [] i = false
 coveredBy (q ∷ qs) i = cond (covers q i) true (coveredBy qs i)
 
--- bytes s that start at place a, with other bytes in those parts: at each place the one that f has for it
+-- bytes s that start at place a, with other bytes in those parts: at place i the byte f i
 unfoldable pub fillIn : (ℕ → ℕ) → List Span → ℕ → List ℕ → List ℕ
 fillIn f qs a [] = []
 fillIn f qs a (b ∷ s) = cond (coveredBy qs a) (f a) b ∷ fillIn f qs (suc a) s
 
--- what lies behind the part entered last; all that the lookup leaves aside: that, and the values passed over
-abbrev pub behind : Reading → List ℕ → List ℕ → Span
-behind r s path = between (past (lastEntered r s path)) (length s)
+-- what stands after the part entered last (rule 6.14); that and the values passed over are what a lookup leaves aside
+abbrev pub afterLast : Reading → List ℕ → List ℕ → Span
+afterLast r s path = between (endOf (lastEntered r s path)) (length s)
 
 abbrev pub aside : Reading → List ℕ → List ℕ → List Span
-aside r s path = behind r s path ∷ passed r s path
+aside r s path = afterLast r s path ∷ passed r s path
 
--- the record with other bytes in all of that
+-- the record with other bytes in all that the lookup leaves aside
 abbrev pub refill : (ℕ → ℕ) → Reading → List ℕ → List ℕ → List ℕ
 refill f r s path = fillIn f (aside r s path) 0 s
 
--- the place up to which a lookup looks: where the value found begins; where it is refused, the end of the part entered last
+-- the place up to which a lookup looks: the start of the value found; if refused, the end of the part entered last
 abbrev pub seenTo : Reading → List ℕ → List ℕ → ℕ
-seenTo r s path = ofValue (lookup r s path) (past (lastEntered r s path)) (λ p. p .at)
+seenTo r s path = ofValue (lookup r s path) (endOf (lastEntered r s path)) (λ p. p .at)
 
--- whether a lookup looks at a place: outside of the values passed over, and before that place
+-- whether a lookup looks at place i: i is outside of the values passed over, and before the place up to which it looks
 abbrev pub seen : Reading → List ℕ → List ℕ → ℕ → Bool
 seen r s path i = cond (coveredBy (passed r s path) i) false (ltb i (seenTo r s path))

@@ -1,4 +1,4 @@
--- Laws of a tag and a length as they are written. Assumes nothing.
+-- What is written for a tag and for a length (rules 7.1 and 7.2).
 use Prim.Native.Nat.{ℕ, zero, suc, _/_, _%_, _≤_, _<_}
 use mathlib.Core.Path.{_≡_, refl, ap, _∙_}
 use mathlib.Core.List.{List, [], _∷_}
@@ -8,38 +8,39 @@ use lib.ListN.{length, getD}
 use Rattle.basis.specs.Number.{be}
 use Rattle.tlv_write.specs.Written.{tagBytes, lenBytes}
 
-each : (t : List ℕ) → length t ≡ 3 → t ≡ getD t 0 0 ∷ getD t 1 0 ∷ getD t 2 0 ∷ []
-each [] h = absurd (omega arith)
-each (a ∷ []) h = absurd (omega arith)
-each (a ∷ b ∷ []) h = absurd (omega arith)
-each (a ∷ b ∷ c ∷ []) h = refl
-each (a ∷ b ∷ c ∷ d ∷ t) h = absurd (omega arith)
+-- a list of three bytes, byte by byte
+three-bytes-of : (t : List ℕ) → length t ≡ 3 → t ≡ getD t 0 0 ∷ getD t 1 0 ∷ getD t 2 0 ∷ []
+three-bytes-of [] h = absurd (omega arith)
+three-bytes-of (a ∷ []) h = absurd (omega arith)
+three-bytes-of (a ∷ b ∷ []) h = absurd (omega arith)
+three-bytes-of (a ∷ b ∷ c ∷ []) h = refl
+three-bytes-of (a ∷ b ∷ c ∷ d ∷ t) h = absurd (omega arith)
 
-kept : (a b : ℕ) (s : List ℕ) → (a ≡ 0 → ⊥) → tagBytes (a ∷ b ∷ s) ≡ a ∷ b ∷ s
+first-kept : (a b : ℕ) (s : List ℕ) → (a ≡ 0 → ⊥) → tagBytes (a ∷ b ∷ s) ≡ a ∷ b ∷ s
 unfolding tagBytes
-kept zero b s f = absurd (f refl)
-kept (suc a) b s f = refl
+first-kept zero b s f = absurd (f refl)
+first-kept (suc a) b s f = refl
 
-dropped : (a b : ℕ) (s : List ℕ) → a ≡ 0 → tagBytes (a ∷ b ∷ s) ≡ tagBytes (b ∷ s)
+zero-dropped : (a b : ℕ) (s : List ℕ) → a ≡ 0 → tagBytes (a ∷ b ∷ s) ≡ tagBytes (b ∷ s)
 unfolding tagBytes
-dropped a b s e = rw e
+zero-dropped a b s e = rw e
 
-last : (a : ℕ) → tagBytes (a ∷ []) ≡ a ∷ []
+last-kept : (a : ℕ) → tagBytes (a ∷ []) ≡ a ∷ []
 unfolding tagBytes
-last a = refl
+last-kept a = refl
 
--- a tag of three bytes, of two, and of one
+-- a tag that is written as three bytes, as two, and as one (rule 7.1)
 module _ (t : List ℕ) (h : length t ≡ 3) where
   pub tag-three : (getD t 0 0 ≡ 0 → ⊥) → tagBytes t ≡ getD t 0 0 ∷ getD t 1 0 ∷ getD t 2 0 ∷ []
-  tag-three f = ap tagBytes (each t h) ∙ kept _ _ _ f
+  tag-three f = ap tagBytes (three-bytes-of t h) ∙ first-kept _ _ _ f
 
   pub tag-two : getD t 0 0 ≡ 0 → (getD t 1 0 ≡ 0 → ⊥) → tagBytes t ≡ getD t 1 0 ∷ getD t 2 0 ∷ []
-  tag-two e f = ap tagBytes (each t h) ∙ dropped _ _ _ e ∙ kept _ _ _ f
+  tag-two e f = ap tagBytes (three-bytes-of t h) ∙ zero-dropped _ _ _ e ∙ first-kept _ _ _ f
 
   pub tag-one : getD t 0 0 ≡ 0 → getD t 1 0 ≡ 0 → tagBytes t ≡ getD t 2 0 ∷ []
-  tag-one e f = ap tagBytes (each t h) ∙ dropped _ _ _ e ∙ dropped _ _ _ f ∙ last _
+  tag-one e f = ap tagBytes (three-bytes-of t h) ∙ zero-dropped _ _ _ e ∙ zero-dropped _ _ _ f ∙ last-kept _
 
--- a length in one byte, in two, and in three
+-- a length in one byte, in two, and in three (rule 7.2)
 pub len-one : (n : ℕ) → n ≤ 0x7F → lenBytes n ≡ n ∷ []
 unfolding lenBytes
 len-one n h = rw (le-leb _ _ h)

@@ -1,30 +1,30 @@
-//! What a call has to leave, as an answer that is written down: numbers, bytes from a place on, or a refusal.
+//! What a call must answer, as a value: numbers and bytes that it writes, or a refusal.
 
 use std::borrow::Cow;
 
 use gorvisclen::{Refused, Reply, NONE};
 
-/// What a call has to leave: numbers at the front of `out`, and bytes in `to` from a place on.
-pub struct Left<'a, const N: usize> {
+/// What a call must write: numbers to the front of `out`, and bytes to `to` from a place on.
+pub struct Writes<'a, const N: usize> {
     pub numbers: [u64; N],
     pub at: usize,
     pub bytes: Cow<'a, [u8]>,
-    /// The refusal that is given though all this is written.
+    /// The refusal that is replied although all this is written.
     pub refused: Option<u8>,
 }
 
-/// What it has to leave, or the number of a refusal that changes nothing.
-pub type Answer<'a, const N: usize> = Result<Left<'a, N>, u8>;
+/// What a call must write, or the number of a refusal that changes nothing.
+pub type Answer<'a, const N: usize> = Result<Writes<'a, N>, u8>;
 
-impl<'a, const N: usize> Left<'a, N> {
+impl<'a, const N: usize> Writes<'a, N> {
     /// Numbers, and bytes from a place on.
     #[inline(always)]
-    pub fn written(numbers: [u64; N], at: usize, bytes: impl Into<Cow<'a, [u8]>>) -> Self {
+    pub fn new(numbers: [u64; N], at: usize, bytes: impl Into<Cow<'a, [u8]>>) -> Self {
         let (bytes, refused) = (bytes.into(), None);
-        Left { numbers, at, bytes, refused }
+        Writes { numbers, at, bytes, refused }
     }
 
-    /// Leaves it, in what is long enough.
+    /// Writes it to the lent buffers, if they are long enough.
     #[inline(always)]
     pub fn write(&self, to: &mut [u8], out: &mut [u64]) -> Reply {
         let end = self.at.checked_add(self.bytes.len()).ok_or(Refused(16))?;
@@ -36,29 +36,35 @@ impl<'a, const N: usize> Left<'a, N> {
     }
 }
 
-/// Numbers alone.
-impl<const N: usize> From<[u64; N]> for Left<'_, N> {
+/// Only numbers.
+impl<const N: usize> From<[u64; N]> for Writes<'_, N> {
     #[inline(always)]
     fn from(numbers: [u64; N]) -> Self {
-        Left::written(numbers, 0, &[][..])
+        Writes::new(numbers, 0, &[][..])
     }
 }
 
-/// A part that is copied to the front, and its length; no part is no bytes, and the number `NONE`.
-impl<'a> From<Option<Cow<'a, [u8]>>> for Left<'a, 1> {
+/// A part that is copied to the front, and its length. If there is no part: no bytes, and the number `NONE`.
+impl<'a> From<Option<Cow<'a, [u8]>>> for Writes<'a, 1> {
     #[inline(always)]
     fn from(part: Option<Cow<'a, [u8]>>) -> Self {
         let len = part.as_ref().map_or(NONE, |part| part.len() as u64);
-        Left::written([len], 0, part.unwrap_or_default())
+        Writes::new([len], 0, part.unwrap_or_default())
     }
 }
 
-/// Leaves an answer. Of two refusals the smaller number wins, but 19 comes before 16.
+/// Replies and writes an answer. Of two refusals the smaller number wins, but 19 comes before 16.
 #[inline(always)]
-pub fn leave<const N: usize>(answer: &Answer<N>, to: &mut [u8], out: &mut [u64]) -> Reply {
+pub fn give<const N: usize>(answer: &Answer<N>, to: &mut [u8], out: &mut [u64]) -> Reply {
     match answer {
-        Ok(left) => left.write(to, out),
+        Ok(writes) => writes.write(to, out),
         Err(number) if *number < 16 || *number == 19 || out.len() >= N => Err(Refused(*number)),
         Err(_) => Err(Refused(16)),
     }
+}
+
+/// The number of a reply, as the exported functions return it: 0, or that of the refusal.
+#[inline(always)]
+pub fn reply_number(reply: Reply) -> u8 {
+    reply.map_or_else(|Refused(number)| number, |()| 0)
 }

@@ -1,14 +1,14 @@
-//! How often each branch of the Rust was taken, and those that no caller takes.
+//! How often each branch of the Rust was taken, and the branches that no caller can take.
 
 use original::{Branch, BRANCHES};
 
 use crate::jobs::LEAST;
 
-const DEBUG: &str = "document 01 leaves Debug behind";
-const NESTED: &str = "a builder as the data of another writer: document 01 leaves nested data sources behind";
+const DEBUG: &str = "Debug is not ported";
+const NESTED: &str = "a builder as the data of another writer: nested data sources are not ported";
 
-/// Branches that are not taken: the file, a part of the function's name, a part of the text (nothing for all of the function), why.
-/// One that is taken all the same makes the run fail, and so does a row that no branch is of.
+/// Branches that are never taken: the file, a part of the function's name, a part of the text (empty for all of the
+/// function), and the reason. The run fails if such a branch is taken, or if a row fits no branch.
 const EXCEPTED: [(&str, &str, &str, &str); 8] = [
     ("aid.rs", "impl fmt::Debug for FromSliceError", "", DEBUG),
     ("aid.rs", "impl fmt::Debug for Aid", "", DEBUG),
@@ -40,50 +40,51 @@ const EXCEPTED: [(&str, &str, &str, &str); 8] = [
     ),
 ];
 
-/// How many of the rarest branches are printed, beside those that are taken less than a thousand times.
+/// How many of the rarest branches are printed, besides those that are taken less than a thousand times.
 const RAREST: usize = 12;
 
-fn excepted(branch: &Branch) -> Option<usize> {
+/// The row of `EXCEPTED` that a branch fits.
+fn exception(branch: &Branch) -> Option<usize> {
     EXCEPTED.iter().position(|&(file, function, text, _)| {
         branch.file == file && branch.function.contains(function) && branch.text.contains(text)
     })
 }
 
-fn shown(count: u64, branch: &Branch) -> String {
+fn line(count: u64, branch: &Branch) -> String {
     let Branch { file, line, function, text } = branch;
     format!("branch {count:>10}  {file}:{line}, {function}: {text}")
 }
 
-/// Prints the rarest branches and those taken too seldom, and says whether there are such, or exceptions that are none.
+/// Prints the rarest branches. Returns whether the run failed: a branch was taken too seldom, or an exception is wrong.
 pub fn print(counts: &[u64], least: u64) -> bool {
     let mut branches: Vec<_> = counts.iter().copied().zip(&BRANCHES).collect();
     branches.sort_by_key(|(count, _)| *count);
     let (mut failed, mut printed) = (false, 0);
     let mut used = [0_usize; EXCEPTED.len()];
     for &(count, branch) in &branches {
-        match excepted(branch) {
+        match exception(branch) {
             Some(at) if count == 0 => used[at] += 1,
             Some(_) => {
-                println!("{}: EXCEPTED, BUT TAKEN", shown(count, branch));
+                println!("{}: EXCEPTED, BUT TAKEN", line(count, branch));
                 failed = true;
             }
             None if count < least => {
-                println!("{}: TOO FEW", shown(count, branch));
+                println!("{}: TOO FEW", line(count, branch));
                 failed = true;
             }
             None if printed < RAREST || count < LEAST => {
-                println!("{}", shown(count, branch));
+                println!("{}", line(count, branch));
                 printed += 1;
             }
             None => (),
         }
     }
     for (&(file, function, text, why), n) in EXCEPTED.iter().zip(used) {
-        let of = if n == 0 { ": EXCEPTED, BUT NOT THERE" } else { "" };
-        println!("branches {n:>8}  excepted in {file}, {function} {text}: {why}{of}");
+        let fault = if n == 0 { ": EXCEPTED, BUT NOT THERE" } else { "" };
+        println!("branches {n:>8}  excepted in {file}, {function} {text}: {why}{fault}");
         failed |= n == 0;
     }
-    let held = branches.len() - used.iter().sum::<usize>();
-    println!("branches in all: {}, held to at least {least} times: {held}", branches.len());
+    let required = branches.len() - used.iter().sum::<usize>();
+    println!("branches in all: {}, required at least {least} times: {required}", branches.len());
     failed
 }

@@ -1,32 +1,33 @@
-//! The class byte: every byte, every operation, `out` of every length to 13; and again in any order.
+//! The class byte: every byte, every operation, `out` of every length up to 13; then random bytes.
 
 use gorvisclen::{CLASS_CONSTANTS, CLASS_NUMBERS, NONE};
 use original::command::class::{Class, Interindustry, Range, SecureMessaging, NO_SM_CLA, SM_CLA, ZERO_CLA};
 
+use crate::benchmark::{Size, Table, NO_LIMIT};
 use crate::call::{call, Call};
-use crate::inputs::Inputs;
-use crate::record::Operation;
+use crate::random::Random;
+use crate::recording::Operation;
 use crate::tally::Tally;
-use crate::timing::{Lines, Size, NO_LIMIT};
 
-/// What each number of a class is.
-const NUMBERS: [&str; CLASS_NUMBERS] = [
+/// The label of each number of a class.
+const NUMBER_LABELS: [&str; CLASS_NUMBERS] = [
     "Class::into_inner",
     "Class::range",
     "Class::secure_messaging",
-    "Class::secure_messaging, standard reading (held to a table of ISO/IEC 7816-4)",
+    "Class::secure_messaging, standard reading (checked against a table of ISO/IEC 7816-4)",
     "SecureMessaging::none",
-    "SecureMessaging::none, standard reading (held to a table of ISO/IEC 7816-4)",
+    "SecureMessaging::none, standard reading (checked against a table of ISO/IEC 7816-4)",
     "Class::chain",
     "Chain::last_or_only",
     "Chain::not_the_last",
     "Class::channel",
-    "Class::channel, standard reading (held to a table of ISO/IEC 7816-4)",
+    "Class::channel, standard reading (checked against a table of ISO/IEC 7816-4)",
 ];
 
-const CONSTANTS: [&str; CLASS_CONSTANTS] = ["ZERO_CLA", "NO_SM_CLA", "SM_CLA"];
+const CONSTANT_LABELS: [&str; CLASS_CONSTANTS] = ["ZERO_CLA", "NO_SM_CLA", "SM_CLA"];
 
-/// Secure messaging as ISO/IEC 7816-4 has it: the bits that decide, their value, the reading. A byte of no row is unknown.
+/// Secure messaging by ISO/IEC 7816-4: the bits that decide, their value, the meaning. A byte that fits no row is
+/// unknown.
 const STANDARD_SECURE_MESSAGING: [(u8, u8, SecureMessaging); 6] = [
     (0b1110_1100, 0b0000_0000, SecureMessaging::None),
     (0b1110_1100, 0b0000_0100, SecureMessaging::Proprietary),
@@ -36,12 +37,12 @@ const STANDARD_SECURE_MESSAGING: [(u8, u8, SecureMessaging); 6] = [
     (0b1110_0000, 0b0110_0000, SecureMessaging::Standard),
 ];
 
-/// The channel as ISO/IEC 7816-4 has it: the bits that decide, their value, the bits that count, what they count from.
-/// A byte of no row has none.
+/// The channel by ISO/IEC 7816-4: the bits that decide, their value, the bits of the number, the number of the first
+/// channel. A byte that fits no row has no channel.
 const STANDARD_CHANNEL: [(u8, u8, u8, u8); 2] =
     [(0b1110_0000, 0b0000_0000, 0b0000_0011, 0), (0b1100_0000, 0b0100_0000, 0b0000_1111, 4)];
 
-fn of_range(range: Range) -> u64 {
+fn range_number(range: Range) -> u64 {
     match range {
         Range::Interindustry(Interindustry::First) => 0,
         Range::Interindustry(Interindustry::Further) => 1,
@@ -50,18 +51,18 @@ fn of_range(range: Range) -> u64 {
     }
 }
 
-fn of_channel(channel: Option<u8>) -> u64 {
+fn channel_number(channel: Option<u8>) -> u64 {
     channel.map_or(NONE, u64::from)
 }
 
 type Numbers = [u64; CLASS_NUMBERS];
 
-/// The numbers that the Rust has, those of its own lists by the place there; those of the standard reading are zeros.
+/// The numbers that the Rust has. An enum is the place of its variant. The numbers of the standard reading are zeros.
 #[inline(always)]
-fn of_class(class: Class) -> Numbers {
+fn rust_numbers(class: Class) -> Numbers {
     [
         class.into_inner().into(),
-        of_range(class.range()),
+        range_number(class.range()),
         class.secure_messaging() as u64,
         0,
         class.secure_messaging().none().into(),
@@ -69,12 +70,12 @@ fn of_class(class: Class) -> Numbers {
         class.chain() as u64,
         class.chain().last_or_only().into(),
         class.chain().not_the_last().into(),
-        of_channel(class.channel()),
+        channel_number(class.channel()),
         0,
     ]
 }
 
-/// The same numbers, those of the standard reading by the tables.
+/// The same numbers, with those of the standard reading from the tables.
 fn with_standard(mut numbers: Numbers) -> Numbers {
     let cla = numbers[0] as u8;
     let messaging = STANDARD_SECURE_MESSAGING.iter().find(|row| cla & row.0 == row.1);
@@ -82,29 +83,29 @@ fn with_standard(mut numbers: Numbers) -> Numbers {
     let channel = STANDARD_CHANNEL.iter().find(|row| cla & row.0 == row.1);
     numbers[3] = messaging as u64;
     numbers[5] = (messaging == SecureMessaging::None).into();
-    numbers[10] = of_channel(channel.map(|row| row.3 + (cla & row.2)));
+    numbers[10] = channel_number(channel.map(|row| row.3 + (cla & row.2)));
     numbers
 }
 
 #[inline(always)]
-fn made<const CHAINED: bool>(cla: u8) -> Result<Numbers, u8> {
+fn rust_answer<const CHAINED: bool>(cla: u8) -> Result<Numbers, u8> {
     let class = Class::from_byte(cla).map_err(|_| 3)?;
-    Ok(of_class(if CHAINED { class.as_chained() } else { class }))
+    Ok(rust_numbers(if CHAINED { class.as_chained() } else { class }))
 }
 
-/// The class of a byte, or the same with its chaining bit set. The tables stand for the standard reading.
-fn make<const CHAINED: bool>(cla: u8) -> impl Call<CLASS_NUMBERS> {
+/// The class of a byte, or the same with its chaining bit set. The reference for the standard reading is the tables.
+fn class<const CHAINED: bool>(cla: u8) -> impl Call<CLASS_NUMBERS> {
     let (name, operation) = match CHAINED {
         true => ("Class::as_chained", Operation::ClassAsChained),
         false => ("Class::from_byte", Operation::Class),
     };
     call(
-        (name, &NUMBERS),
+        (name, &NUMBER_LABELS),
         cla,
         |&cla, _, out| if CHAINED { gorvisclen::class_as_chained(cla, out) } else { gorvisclen::class(cla, out) },
-        |&cla, _| Ok(made::<CHAINED>(cla)?.into()),
+        |&cla, _| Ok(rust_answer::<CHAINED>(cla)?.into()),
     )
-    .held_to(|&cla, _| Ok(with_standard(made::<CHAINED>(cla)?).into()))
+    .with_reference(|&cla, _| Ok(with_standard(rust_answer::<CHAINED>(cla)?).into()))
     .recorded_as(operation)
 }
 
@@ -113,14 +114,14 @@ fn range(cla: u8) -> impl Call<1> {
         ("Range::from_cla", &[]),
         cla,
         |&cla, _, out| gorvisclen::range(cla, out),
-        |&cla, _| Ok([of_range(Range::from_cla(cla).map_err(|_| 3)?)].into()),
+        |&cla, _| Ok([range_number(Range::from_cla(cla).map_err(|_| 3)?)].into()),
     )
     .recorded_as(Operation::Range)
 }
 
 fn constants() -> impl Call<CLASS_CONSTANTS> {
     call(
-        ("the constants of class", &CONSTANTS),
+        ("the constants of class", &CONSTANT_LABELS),
         (),
         |_, _, out| gorvisclen::class_constants(out),
         |_, _| Ok([ZERO_CLA, NO_SM_CLA, SM_CLA].map(|class| class.into_inner().into()).into()),
@@ -128,47 +129,48 @@ fn constants() -> impl Call<CLASS_CONSTANTS> {
     .recorded_as(Operation::ClassConstants)
 }
 
-/// Every operation on a class byte, with `out` of a length.
-fn every_operation(tally: &mut Tally, cla: u8, len: usize) {
-    make::<false>(cla).compare_numbers(tally, len);
-    make::<true>(cla).compare_numbers(tally, len);
-    range(cla).compare_numbers(tally, len);
+/// Every operation on a class byte, with `out` of this length.
+fn every_operation(tally: &mut Tally, cla: u8, out_len: usize) {
+    class::<false>(cla).compare_numbers(tally, out_len);
+    class::<true>(cla).compare_numbers(tally, out_len);
+    range(cla).compare_numbers(tally, out_len);
 }
 
-/// Any class bytes.
-pub fn random(tally: &mut Tally, inputs: &mut Inputs) {
+/// Random class bytes.
+pub fn random_cases(tally: &mut Tally, random: &mut Random) {
     for _ in 0..4 {
-        let cla = if inputs.below(16) == 0 { 0xFF } else { inputs.byte() };
-        every_operation(tally, cla, inputs.below(CLASS_NUMBERS + 3));
+        let cla = if random.below(16) == 0 { 0xFF } else { random.byte() };
+        every_operation(tally, cla, random.below(CLASS_NUMBERS + 3));
     }
-    constants().compare_numbers(tally, inputs.below(6));
+    constants().compare_numbers(tally, random.below(6));
 }
 
-/// Every byte, with `out` of a length.
-fn every_byte(tally: &mut Tally, len: usize) {
+/// Every byte, with `out` of this length.
+fn every_byte(tally: &mut Tally, out_len: usize) {
     for cla in 0..=255 {
-        every_operation(tally, cla, len);
+        every_operation(tally, cla, out_len);
     }
-    constants().compare_numbers(tally, len);
+    constants().compare_numbers(tally, out_len);
 }
 
-pub fn compare(tally: &mut Tally, inputs: &mut Inputs) {
-    for len in 0..=13 {
-        every_byte(tally, len);
+pub fn compare(tally: &mut Tally, random: &mut Random) {
+    for out_len in 0..=13 {
+        every_byte(tally, out_len);
     }
     for _ in 0..5_000 {
-        random(tally, inputs);
+        random_cases(tally, random);
     }
 }
 
-pub fn recorded(tally: &mut Tally, _: &mut Inputs) {
+/// The calls that are recorded: every byte once.
+pub fn recorded(tally: &mut Tally, _: &mut Random) {
     every_byte(tally, CLASS_NUMBERS);
 }
 
-/// The Rust gives the 8 numbers that it has; ours gives these and the 3 of the standard reading.
-pub fn time(lines: &mut Lines) {
+/// The Rust gives the 8 numbers that it has. The library gives these and the 3 of the standard reading.
+pub fn bench(table: &mut Table) {
     let size = Size::default();
-    lines.calls("class, every byte", NO_LIMIT, &(0..=255).map(make::<false>).collect::<Vec<_>>(), size);
+    table.calls("class, every byte", NO_LIMIT, &(0..=255).map(class::<false>).collect::<Vec<_>>(), size);
     for (name, cla) in [
         ("  first interindustry, 0D", 0x0D),
         ("  further interindustry, 65", 0x65),
@@ -176,8 +178,8 @@ pub fn time(lines: &mut Lines) {
         ("  proprietary, 84", 0x84),
         ("  refused 3, FF", 0xFF),
     ] {
-        lines.calls(name, NO_LIMIT, &[make::<false>(cla)], size);
+        table.calls(name, NO_LIMIT, &[class::<false>(cla)], size);
     }
-    lines.calls("class, chained, every byte", NO_LIMIT, &(0..=255).map(make::<true>).collect::<Vec<_>>(), size);
-    lines.calls("range of a class, every byte", NO_LIMIT, &(0..=255).map(range).collect::<Vec<_>>(), size);
+    table.calls("class, chained, every byte", NO_LIMIT, &(0..=255).map(class::<true>).collect::<Vec<_>>(), size);
+    table.calls("range of a class, every byte", NO_LIMIT, &(0..=255).map(range).collect::<Vec<_>>(), size);
 }

@@ -1,39 +1,40 @@
-//! The jobs of a run, on several threads.
+//! Runs the jobs of a comparison on several threads, and prints what came out.
 
 use std::sync::atomic::{AtomicUsize, Ordering};
 use std::thread;
 
-use crate::inputs::Inputs;
+use crate::random::Random;
 use crate::tally::Tally;
 
-/// Compares some cases with random inputs.
-pub type Job = fn(&mut Tally, &mut Inputs);
+/// Compares some cases.
+pub type Job = fn(&mut Tally, &mut Random);
 
-/// A job of random cases goes on until it has compared so many.
-const AT_LEAST: u64 = 50_000;
+/// A job of random cases goes on until it has compared this many.
+const CASES_OF_A_JOB: u64 = 50_000;
 
-/// How often every refusal and every branch has to come in a run with random cases, and in a short one.
+/// The fewest times that every refusal and every branch must come: in a run with random cases, and in a short run.
 pub const LEAST: u64 = 1_000;
 const LEAST_SHORT: u64 = 1;
 
-/// The numbers of refusal that the library gives. 20 is the listing's.
+/// The numbers of refusal that the library gives. 20 belongs to the listing.
 const REFUSALS: [u8; 20] = [1, 2, 3, 4, 5, 6, 7, 8, 9, 10, 11, 12, 13, 14, 15, 16, 17, 18, 19, 21];
 
-/// What a run is asked for.
-pub struct Asked {
+/// The options of a run.
+pub struct Options {
+    /// How many random cases there are at least.
     pub cases: u64,
     pub seed: u64,
     pub threads: usize,
 }
 
-/// What a run has done.
-pub struct Done {
-    asked: u64,
+/// The results of a run.
+pub struct Results {
+    requested_cases: u64,
     pub tally: Tally,
-    /// The random cases by what they are of.
+    /// How many random cases there are of each kind.
     random: Vec<(&'static str, u64)>,
-    /// How often each branch was taken, where they are counted.
-    #[cfg_attr(not(feature = "counted"), allow(dead_code))]
+    /// How often each branch was taken, if branches are counted.
+    #[cfg_attr(not(feature = "coverage"), allow(dead_code))]
     pub branches: Vec<u64>,
 }
 
@@ -42,33 +43,33 @@ fn add(sum: &mut Vec<u64>, counts: &[u64]) {
     sum.iter_mut().zip(counts).for_each(|(sum, n)| *sum += n);
 }
 
-/// How often each branch was taken in this thread; none where they are not counted.
+/// How often each branch was taken in this thread; empty if branches are not counted.
 fn branches() -> Vec<u64> {
-    #[cfg(feature = "counted")]
+    #[cfg(feature = "coverage")]
     return original::counts();
-    #[cfg(not(feature = "counted"))]
+    #[cfg(not(feature = "coverage"))]
     Vec::new()
 }
 
-/// Runs the short run's jobs, then as many of the random ones as are asked for, one of each kind after the other.
-pub fn run(asked: &Asked, whole: &[Job], random: &[(&'static str, Job)]) -> Done {
-    let rounds = asked.cases.div_ceil(AT_LEAST * random.len() as u64) as usize;
-    let jobs = whole.len() + rounds * random.len();
+/// Runs the jobs of the short run, then the requested number of random jobs, in turn one of each kind.
+pub fn run(options: &Options, short_run: &[Job], kinds: &[(&'static str, Job)]) -> Results {
+    let rounds = options.cases.div_ceil(CASES_OF_A_JOB * kinds.len() as u64) as usize;
+    let jobs = short_run.len() + rounds * kinds.len();
     let next = AtomicUsize::new(0);
     let work = || {
-        let (mut tally, mut shares) = (Tally::default(), vec![0; random.len()]);
+        let (mut tally, mut shares) = (Tally::default(), vec![0; kinds.len()]);
         loop {
             let job = next.fetch_add(1, Ordering::Relaxed);
-            let mut inputs = Inputs::new(asked.seed, job as u64);
-            if let Some(compare) = whole.get(job) {
-                compare(&mut tally, &mut inputs);
+            let mut random = Random::of_job(options.seed, job as u64);
+            if let Some(compare) = short_run.get(job) {
+                compare(&mut tally, &mut random);
             } else if job < jobs {
-                let of = (job - whole.len()) % random.len();
+                let kind = (job - short_run.len()) % kinds.len();
                 let before = tally.calls();
-                while tally.calls() - before < AT_LEAST {
-                    (random[of].1)(&mut tally, &mut inputs);
+                while tally.calls() - before < CASES_OF_A_JOB {
+                    (kinds[kind].1)(&mut tally, &mut random);
                 }
-                shares[of] += tally.calls() - before;
+                shares[kind] += tally.calls() - before;
             } else {
                 return (tally, shares, branches());
             }
@@ -76,27 +77,28 @@ pub fn run(asked: &Asked, whole: &[Job], random: &[(&'static str, Job)]) -> Done
     };
     let (mut tally, mut shares, mut branches) = (Tally::default(), Vec::new(), Vec::new());
     thread::scope(|scope| {
-        let threads: Vec<_> = (0..asked.threads).map(|_| scope.spawn(work)).collect();
+        let threads: Vec<_> = (0..options.threads).map(|_| scope.spawn(work)).collect();
         for thread in threads {
-            let (other, theirs, taken) = thread.join().expect("a thread failed");
-            tally.add(other);
-            add(&mut shares, &theirs);
-            add(&mut branches, &taken);
+            let (thread_tally, thread_shares, thread_branches) = thread.join().expect("a thread failed");
+            tally.add(thread_tally);
+            add(&mut shares, &thread_shares);
+            add(&mut branches, &thread_branches);
         }
     });
-    Done { asked: asked.cases, tally, random: random.iter().map(|kind| kind.0).zip(shares).collect(), branches }
+    let random = kinds.iter().map(|kind| kind.0).zip(shares).collect();
+    Results { requested_cases: options.cases, tally, random, branches }
 }
 
-impl Done {
-    /// How often every refusal and every branch has to come.
+impl Results {
+    /// The fewest times that every refusal and every branch must come.
     pub fn least(&self) -> u64 {
-        match self.asked {
+        match self.requested_cases {
             0 => LEAST_SHORT,
             _ => LEAST,
         }
     }
 
-    /// Prints the counts, and says whether the run failed.
+    /// Prints the counts, and returns whether the run failed.
     pub fn print(&self) -> bool {
         self.tally.print();
         let random: u64 = self.random.iter().map(|(_, cases)| cases).sum();

@@ -1,17 +1,15 @@
-//! Buffers that are lent to a call, and what a call leaves behind.
+//! Buffers that are lent to a call, and the outcome of a call: its reply and all lent memory after it.
 
 use std::fmt;
-use std::ops::Deref;
 
 use gorvisclen::{Refused, Reply};
 
-/// How many elements stand before and after the part that is lent.
+use crate::hex::Hex;
+
+/// How many elements are before the lent part of a buffer, and how many after it.
 const MARGIN: usize = 4;
 
-/// How many bytes are shown of a longer row of them: at its beginning, and at its end.
-const SHOWN: (usize, usize) = (80, 16);
-
-/// A buffer to lend: a part of a longer one that is filled with a pattern, so that a write outside of the part is seen.
+/// A buffer of which a part is lent. All of it is filled with a pattern, so that a write outside of the part is seen.
 #[derive(PartialEq)]
 pub struct Lent<T> {
     whole: Vec<T>,
@@ -44,13 +42,13 @@ impl<T: Copy> Lent<T> {
         self.whole[MARGIN + i]
     }
 
-    /// How long the part is.
+    /// The length of the part.
     pub fn len(&self) -> usize {
         self.whole.len() - 2 * MARGIN
     }
 }
 
-/// Numbers to lend, none of which any operation writes.
+/// Numbers to lend. No operation writes any of these values.
 pub fn numbers(len: usize) -> Lent<u64> {
     Lent::filled(len, |i| 70_000 + i as u64)
 }
@@ -60,30 +58,30 @@ pub fn bytes(len: usize) -> Lent<u8> {
     Lent::filled(len, |i| 0xA5 ^ (i as u8).wrapping_mul(29))
 }
 
-/// What a call leaves: its reply, and everything that was lent, at the end.
+/// The outcome of a call: its reply, and all lent memory after it.
 #[derive(Clone, PartialEq)]
 pub struct Outcome {
     pub reply: Reply,
     pub out: Lent<u64>,
     to: Lent<u8>,
     /// What was lent to be read.
-    read: Vec<u8>,
+    input: Vec<u8>,
 }
 
 impl Outcome {
     pub fn new(reply: Reply, out: Lent<u64>, to: Lent<u8>) -> Self {
-        let read = Vec::new();
-        Outcome { reply, out, to, read }
+        let input = Vec::new();
+        Outcome { reply, out, to, input }
     }
 
-    /// With what else was lent, to be read: as it is now.
-    pub fn reading(mut self, read: Vec<u8>) -> Self {
-        self.read = read;
+    /// With what was lent to be read, as it is after the call.
+    pub fn with_input(mut self, input: Vec<u8>) -> Self {
+        self.input = input;
         self
     }
 
-    /// Where it first differs from another outcome of the same call. Places count from the beginning of what was lent.
-    pub fn differs(&self, other: &Outcome) -> String {
+    /// The first difference from another outcome of the same call. Places count from the beginning of the lent part.
+    pub fn first_difference(&self, other: &Outcome) -> String {
         let place = |name: &str, at: usize| format!("{name} at {}", at as isize - MARGIN as isize);
         if self.reply != other.reply {
             "the reply".to_string()
@@ -97,7 +95,7 @@ impl Outcome {
     }
 }
 
-/// The first place at which two rows of the same length differ.
+/// The first place at which two slices of the same length differ.
 fn differ<T: PartialEq>(one: &[T], other: &[T]) -> Option<usize> {
     one.iter().zip(other).position(|(a, b)| a != b)
 }
@@ -108,44 +106,13 @@ impl fmt::Display for Outcome {
             Ok(()) => write!(f, "done")?,
             Err(Refused(n)) => write!(f, "refused {n}")?,
         }
-        let [to, read] = [Hex(&self.to.whole), Hex(&self.read)];
-        write!(f, "; out {:?}; to {to:?}; read {read:?}", self.out.whole)
+        let [to, input] = [Hex(&self.to.whole), Hex(&self.input)];
+        write!(f, "; out {:?}; to {to:?}; read {input:?}", self.out.whole)
     }
 }
 
-/// Bytes that are printed in hex, of many only their beginning and end; `-` for none. Or numbers in hex.
-#[derive(Clone, Copy)]
-pub struct Hex<'a, T>(pub &'a [T]);
-
-impl<T> Deref for Hex<'_, T> {
-    type Target = [T];
-    fn deref(&self) -> &[T] {
-        self.0
-    }
-}
-
-impl fmt::Debug for Hex<'_, u8> {
-    fn fmt(&self, f: &mut fmt::Formatter<'_>) -> fmt::Result {
-        let digits = |bytes: &[u8]| bytes.iter().map(|b| format!("{b:02X}")).collect::<String>();
-        let (bytes, len) = (self.0, self.len());
-        match len {
-            0 => write!(f, "-"),
-            _ if len <= SHOWN.0 + SHOWN.1 => write!(f, "{}", digits(bytes)),
-            _ => {
-                let [front, end] = [&bytes[..SHOWN.0], &bytes[len - SHOWN.1..]].map(digits);
-                write!(f, "{front}..{end} ({len} bytes)")
-            }
-        }
-    }
-}
-
-impl fmt::Debug for Hex<'_, u32> {
-    fn fmt(&self, f: &mut fmt::Formatter<'_>) -> fmt::Result {
-        write!(f, "{:X?}", self.0)
-    }
-}
-
-/// Places from which `need` bytes do not fit a buffer that ends behind those from the place `before` on, some so large that a sum wraps.
+/// Places from which `need` bytes do not fit into a buffer of `before + need` bytes. Some are so large that a sum
+/// overflows.
 pub fn places_past(before: usize, need: usize) -> [usize; 7] {
     let exact = before + need;
     let wrapping = (usize::MAX - need).wrapping_add(1);

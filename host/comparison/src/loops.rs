@@ -1,6 +1,6 @@
-//! Loops over all that several lists have together.
+//! Loops over all combinations of several lists.
 
-/// Each of the first with each of the second, in the order of two loops, the second the inner one.
+/// All pairs of two lists, in the order of two nested loops.
 pub fn pairs<A: Clone, B>(
     first: impl IntoIterator<Item = A>,
     second: impl IntoIterator<Item = B> + Clone,
@@ -9,7 +9,7 @@ pub fn pairs<A: Clone, B>(
     first.into_iter().flat_map(with)
 }
 
-/// The same of three.
+/// All triples of three lists.
 pub fn triples<A: Clone, B: Clone, C>(
     first: impl IntoIterator<Item = A>,
     second: impl IntoIterator<Item = B> + Clone,
@@ -18,7 +18,7 @@ pub fn triples<A: Clone, B: Clone, C>(
     pairs(pairs(first, second), third).map(|((a, b), c)| (a, b, c))
 }
 
-/// Every row of up to two bytes, the shorter ones first.
+/// Every string of up to two bytes, the shorter ones first.
 pub fn up_to_two_bytes() -> impl Iterator<Item = Vec<u8>> + Clone {
     let one = (0..=255).map(|byte| vec![byte]);
     let two = (0..=u16::MAX).map(|number| number.to_be_bytes().to_vec());

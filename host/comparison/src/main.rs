@@ -1,51 +1,55 @@
-//! Runs the proved library beside the original Rust. Each concept has a file, in which each of its operations is described once.
+//! Compares the proved library with the original Rust. Each concept has a file, which describes each of its operations
+//! once.
 //!
-//!     compare [--cases N] [--seed S] [--threads T]
-//!     compare record FILE
-//!     compare time [--emulated]
+//!     comparison [--cases N] [--seed S] [--threads T]
+//!     comparison record FILE
+//!     comparison bench [--emulated]
 //!
-//! Without a word it compares: a mismatch is printed and makes the program fail. Without `--cases` it is the short run: all that is
-//! counted through, and a fixed number of random cases. With it, at least N random cases follow. A case is a call of one exported
-//! function, whose reply and lent memory are compared. Each job has random inputs of its own, by the seed and its number, so that the
-//! outcome does not depend on the number of threads. `record` writes answers of the Rust for the program replay; `time` times every
-//! operation beside the Rust's.
+//! The first form compares: it prints each mismatch, and fails if there is one. Without `--cases` it is the short run:
+//! inputs that are gone through one by one, and a fixed number of random cases. With it, at least N random cases
+//! follow. A case is a call of one exported function; its reply and all lent memory are compared. Each job has random
+//! numbers of its own, from the seed and the number of the job. So the results do not depend on the number of threads.
 //!
-//! Compiled once more by `counting`, it runs beside a copy of the Rust that counts its branches.
+//! `record` writes answers of the Rust for the program replay. `bench` times every operation of the library and of the
+//! Rust.
+//!
+//! The package comparison_coverage compiles the same source with a copy of the Rust that counts its branches.
 
-// The counted copy of the Rust stands for `opened` too.
-#[cfg(feature = "counted")]
-extern crate original as opened;
+// That copy has the functions of `original_private` too.
+#[cfg(feature = "coverage")]
+extern crate original as original_private;
 
 mod aid;
 mod answer;
-#[cfg(feature = "counted")]
+mod benchmark;
+#[cfg(feature = "coverage")]
 mod branches;
 mod builder;
 mod call;
 mod class;
 mod command;
-mod inputs;
+mod hex;
 mod jobs;
 mod lent;
 mod loops;
 mod panics;
+mod random;
 mod reassembler;
-mod record;
+mod recording;
 mod splitter;
 mod tally;
-mod timing;
 mod tlv;
 
 use std::{env, fs, process, thread};
 
-use crate::inputs::Inputs;
-use crate::jobs::{Asked, Job};
-use crate::record::File;
+use crate::benchmark::Table;
+use crate::jobs::{Job, Options};
+use crate::random::Random;
+use crate::recording::Recording;
 use crate::tally::Tally;
-use crate::timing::Lines;
 
-/// The parts of the short run, those that take longest first.
-const WHOLE: [Job; 7] = [
+/// The jobs of the short run. Those that take longest are first.
+const SHORT_RUN: [Job; 7] = [
     tlv::compare,
     splitter::compare,
     builder::compare,
@@ -55,76 +59,78 @@ const WHOLE: [Job; 7] = [
     class::compare,
 ];
 
-/// What the random cases are of. Each gets the same share of them.
-const RANDOM: [(&str, Job); 9] = [
+/// The kinds of random cases. There are equally many of each kind.
+const RANDOM_KINDS: [(&str, Job); 9] = [
     ("class and AID", class_and_aid),
-    ("command, parsed and owned", command::random),
-    ("command, extended", command::random_chain),
-    ("records, read", tlv::random),
+    ("command, parsed and owned", command::random_cases),
+    ("command, extended", command::random_extensions),
+    ("records, read", tlv::random_cases),
     ("records, written", tlv::random_writing),
-    ("command, built", builder::random),
+    ("command, built", builder::random_cases),
     ("command, one step of splitting", splitter::random_step),
     ("command, cut into a chain", splitter::random_chain),
-    ("pieces, joined", reassembler::random),
+    ("pieces, joined", reassembler::random_cases),
 ];
 
-/// What is recorded: jobs, and how often each is run.
+/// The jobs that are recorded, and how often each is run.
 const RECORDED: [(usize, Job); 14] = [
     (1, class::recorded),
-    (300, aid::random),
-    (150, tlv::random),
+    (300, aid::random_cases),
+    (150, tlv::random_cases),
     (1, tlv::every_length),
-    (1, tlv::behind_many),
+    (1, tlv::after_many),
     (400, tlv::random_writing),
     (1, tlv::every_written_boundary),
-    (200, command::random),
-    (100, command::random_chain),
+    (200, command::random_cases),
+    (100, command::random_extensions),
     (1, command::every_boundary),
-    (400, builder::random),
+    (400, builder::random_cases),
     (1, builder::every_boundary),
     (2_000, splitter::random_step),
     (400, splitter::random_chain),
 ];
 
 /// What is timed, in the order of the lines.
-const TIMED: [fn(&mut Lines); 7] =
-    [class::time, aid::time, command::time, builder::time, splitter::time, reassembler::time, tlv::time];
+const TIMED: [fn(&mut Table); 7] =
+    [class::bench, aid::bench, command::bench, builder::bench, splitter::bench, reassembler::bench, tlv::bench];
 
-fn class_and_aid(tally: &mut Tally, inputs: &mut Inputs) {
-    class::random(tally, inputs);
-    aid::random(tally, inputs);
+fn class_and_aid(tally: &mut Tally, random: &mut Random) {
+    class::random_cases(tally, random);
+    aid::random_cases(tally, random);
 }
 
-fn asked(words: &[&str]) -> Option<Asked> {
-    let mut asked = Asked { cases: 0, seed: 7816, threads: thread::available_parallelism().map_or(1, usize::from) };
+fn options(words: &[&str]) -> Option<Options> {
+    let threads = thread::available_parallelism().map_or(1, usize::from);
+    let mut options = Options { cases: 0, seed: 7816, threads };
     for pair in words.chunks(2) {
         match *pair {
-            ["--cases", n] => asked.cases = n.parse().ok()?,
-            ["--seed", n] => asked.seed = n.parse().ok()?,
-            ["--threads", n] => asked.threads = n.parse().ok().filter(|&n| n > 0)?,
+            ["--cases", n] => options.cases = n.parse().ok()?,
+            ["--seed", n] => options.seed = n.parse().ok()?,
+            ["--threads", n] => options.threads = n.parse().ok().filter(|&n| n > 0)?,
             _ => return None,
         }
     }
-    Some(asked)
+    Some(options)
 }
 
-/// Compares, and says whether that failed.
-fn compare(asked: &Asked) -> bool {
-    println!("seed {}, random cases asked for {}", asked.seed, asked.cases);
-    let done = jobs::run(asked, &WHOLE, &RANDOM);
-    let failed = done.print();
-    #[cfg(feature = "counted")]
-    let failed = branches::print(&done.branches, done.least()) || failed;
+/// Compares, and returns whether that failed.
+fn compare(options: &Options) -> bool {
+    println!("seed {}, random cases asked for {}", options.seed, options.cases);
+    let results = jobs::run(options, &SHORT_RUN, &RANDOM_KINDS);
+    let failed = results.print();
+    #[cfg(feature = "coverage")]
+    let failed = branches::print(&results.branches, results.least()) || failed;
     failed
 }
 
+/// Records answers in a file, and returns whether that failed.
 fn record(path: &str) -> bool {
-    let (mut tally, mut inputs) = (Tally::default(), Inputs::recorded(record::SEED));
-    tally.file = Some(File::default());
+    let (mut tally, mut random) = (Tally::default(), Random::for_recording(recording::SEED));
+    tally.recording = Some(Recording::default());
     for (turns, job) in RECORDED {
-        (0..turns).for_each(|_| job(&mut tally, &mut inputs));
+        (0..turns).for_each(|_| job(&mut tally, &mut random));
     }
-    let bytes = tally.file.take().unwrap_or_default().bytes();
+    let bytes = tally.recording.take().unwrap_or_default().bytes();
     match fs::write(path, &bytes) {
         Ok(()) => println!("{} bytes", bytes.len()),
         Err(ref error) => eprintln!("{path}: {error}"),
@@ -132,10 +138,11 @@ fn record(path: &str) -> bool {
     tally.mismatches() > 0 || fs::read(path).ok() != Some(bytes)
 }
 
-fn time(emulated: bool) -> bool {
-    timing::head();
-    let mut lines = Lines::default();
-    TIMED.iter().for_each(|time| time(&mut lines));
+/// Times every operation, and returns whether one is above its limit.
+fn bench(emulated: bool) -> bool {
+    benchmark::print_head();
+    let mut table = Table::default();
+    TIMED.iter().for_each(|bench| bench(&mut table));
     println!(
         "{}",
         match emulated {
@@ -143,22 +150,22 @@ fn time(emulated: bool) -> bool {
             false => "not emulated",
         }
     );
-    lines.above() && !emulated
+    table.print_above_limit() && !emulated
 }
 
 fn main() {
     let words: Vec<String> = env::args().skip(1).collect();
     let words: Vec<&str> = words.iter().map(String::as_str).collect();
-    panics::quiet_where_asked();
+    panics::hide_expected_panics();
     let failed = match words[..] {
         ["record", file] => record(file),
-        ["time"] => time(false),
-        ["time", "--emulated"] => time(true),
-        ref words => match asked(words) {
-            Some(asked) => compare(&asked),
+        ["bench"] => bench(false),
+        ["bench", "--emulated"] => bench(true),
+        ref words => match options(words) {
+            Some(options) => compare(&options),
             None => {
-                eprintln!("usage: compare [--cases N] [--seed S] [--threads T], decimal numbers");
-                eprintln!("       compare record FILE | compare time [--emulated]");
+                eprintln!("usage: comparison [--cases N] [--seed S] [--threads T], decimal numbers");
+                eprintln!("       comparison record FILE | comparison bench [--emulated]");
                 process::exit(2)
             }
         },

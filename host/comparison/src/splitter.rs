@@ -1,24 +1,25 @@
-//! Commands cut. Single steps run beside the Rust in every mode, whole chains in short mode, as bytes piece by piece. Where the Rust
-//! panics, ours refuses with 13 or 14; a chain for a buffer under 10, which the Rust may cut, is 14 with us.
+//! Commands that are cut: single steps in every mode; whole chains in short mode, piece by piece, with their bytes.
+//! They are compared with the Rust. If the Rust panics, the library refuses with 13 or 14. A chain for a buffer under
+//! 10, which the Rust may cut, is refused with 14.
 
+mod benchmark;
 mod chains;
-mod edges;
+mod document_cases;
 mod steps;
-mod timed;
 
 use std::hint::black_box;
 
 use gorvisclen::{EXPECTED_MAX, SPLIT_NUMBERS};
 
-use self::steps::{parts, step};
-pub use self::timed::time;
-use crate::builder::{some_expected, some_mode, Asked};
+pub use self::benchmark::bench;
+use self::steps::{compare_parts, should_split};
+use crate::builder::{random_expected_len, random_mode, BuilderInput};
 use crate::call::Call;
-use crate::inputs::Inputs;
 use crate::loops::{pairs, triples};
+use crate::random::Random;
 use crate::tally::Tally;
 
-/// Headers; the last one of a class that is refused, and before it one whose pieces are of that class.
+/// Headers. The class of the last one is refused. The pieces of the one before it have that class.
 const HEADERS: [[u8; 4]; 7] = [
     [0x00, 0xA4, 0x04, 0x00],
     [0x80, 0xDB, 0x3F, 0xFF],
@@ -29,241 +30,242 @@ const HEADERS: [[u8; 4]; 7] = [
     [0xFF, 0xA4, 0x04, 0x00],
 ];
 
-/// Those of which commands are made.
-const MADE: &[[u8; 4]] = HEADERS.split_at(6).0;
+/// The headers whose class is not refused.
+const ACCEPTED_HEADERS: &[[u8; 4]] = HEADERS.split_at(6).0;
 
-/// Expected lengths around each boundary; Max by two numbers.
-const EXPECTED: [u32; 10] = [0, 1, 255, 256, 257, 258, 65_534, 65_535, EXPECTED_MAX, u32::MAX];
+/// Expected lengths around each boundary. Two numbers mean Max.
+const EXPECTED_LENGTHS: [u32; 10] = [0, 1, 255, 256, 257, 258, 65_534, 65_535, EXPECTED_MAX, u32::MAX];
 
 /// Buffers around each boundary.
 fn buffers() -> impl Iterator<Item = usize> + Clone {
     (0..=12).chain(255..=265).chain(65_530..=65_545).chain([131_072, 1 << 32, usize::MAX])
 }
 
-/// Lengths of data around each boundary; the last five are too long.
+/// Lengths of data around each boundary. The last five are too long.
 fn lengths() -> impl Iterator<Item = usize> + Clone {
     (0..=12).chain(250..=260).chain(65_520..=65_540)
 }
 
-fn some_header(inputs: &mut Inputs) -> [u8; 4] {
-    match inputs.below(3) {
-        0 => inputs.one_of(&HEADERS),
-        _ => (inputs.number() as u32).to_be_bytes(),
+fn random_header(random: &mut Random) -> [u8; 4] {
+    match random.below(3) {
+        0 => random.one_of(&HEADERS),
+        _ => (random.number() as u32).to_be_bytes(),
     }
 }
 
-/// Any number, more often a small one or one around a boundary.
-fn some_len(inputs: &mut Inputs) -> usize {
-    match inputs.one_of(&[0, 65_546, 5_000, 20, 20, 700, 700, 700]) {
-        0 => buffers().nth(inputs.below(buffers().count())).unwrap(),
-        most => inputs.below(most),
+/// A random number, more often a small one or one around a boundary.
+fn random_len(random: &mut Random) -> usize {
+    match random.one_of(&[0, 65_546, 5_000, 20, 20, 700, 700, 700]) {
+        0 => buffers().nth(random.below(buffers().count())).unwrap(),
+        most => random.below(most),
     }
 }
 
-/// Compares a step, with its data where these are under a length.
-fn step_under(tally: &mut Tally, most: usize, asked: Asked, available: usize, len: usize) {
-    match asked.data.len() < most {
-        true => step(asked, available).compare_numbers(tally, len),
-        false => step(asked, available).compare_unread(tally, len),
+/// Compares a step. Its data are compared only if they are shorter than `longest`.
+fn compare_step(tally: &mut Tally, longest: usize, input: BuilderInput, available: usize, len: usize) {
+    match input.data.len() < longest {
+        true => should_split(input, available).compare_numbers(tally, len),
+        false => should_split(input, available).compare_output_only(tally, len),
     }
 }
 
 /// Steps around each boundary, in every mode.
-fn every_boundary(tally: &mut Tally, inputs: &mut Inputs) {
-    let row = inputs.bytes(65_540);
-    let before = row.clone();
-    for (n, available, le) in triples(lengths(), buffers(), EXPECTED) {
+fn every_boundary(tally: &mut Tally, random: &mut Random) {
+    let string = random.bytes(65_540);
+    let before = string.clone();
+    for (n, available, le) in triples(lengths(), buffers(), EXPECTED_LENGTHS) {
         for mode in 0..3 {
-            let asked = Asked::new(some_header(inputs), le, mode, &row[..n]);
-            let len = SPLIT_NUMBERS + inputs.below(2);
-            step_under(tally, 300, asked, available, len);
-            if inputs.below(8) == 0 {
-                let len = inputs.below(SPLIT_NUMBERS);
-                step(asked, available).compare_unread(tally, len);
+            let input = BuilderInput::new(random_header(random), le, mode, &string[..n]);
+            let len = SPLIT_NUMBERS + random.below(2);
+            compare_step(tally, 300, input, available, len);
+            if random.below(8) == 0 {
+                let len = random.below(SPLIT_NUMBERS);
+                should_split(input, available).compare_output_only(tally, len);
             }
-            if available > 12 && n <= 65_535 && (n < 300 || inputs.below(64) == 0) {
-                parts(tally, asked, available);
+            if available > 12 && n <= 65_535 && (n < 300 || random.below(64) == 0) {
+                compare_parts(tally, input, available);
             }
         }
     }
-    assert!(*black_box(&row) == before, "a call changed data");
+    assert!(*black_box(&string) == before, "a call changed data");
 }
 
-/// Every length of data and every buffer to 300; and for the longest data, every buffer to 65,545.
-fn every_small_step(tally: &mut Tally, inputs: &mut Inputs) {
-    let row = inputs.bytes(65_535);
+/// Every length of data and every buffer up to 300; and for the longest data, every buffer up to 65,545.
+fn every_small_step(tally: &mut Tally, random: &mut Random) {
+    let string = random.bytes(65_535);
     for mode in 0..3 {
         for le in [0, 1, 256, 257] {
-            let header = inputs.one_of(MADE);
+            let header = random.one_of(ACCEPTED_HEADERS);
             for n in 0..=300 {
-                let asked = Asked::new(header, le, mode, &row[..n]);
+                let input = BuilderInput::new(header, le, mode, &string[..n]);
                 for available in 0..=300 {
-                    if available >= 10 || !(10..=250).contains(&n) || inputs.below(10) == 0 {
-                        step(asked, available).compare_unread(tally, SPLIT_NUMBERS);
+                    if available >= 10 || !(10..=250).contains(&n) || random.below(10) == 0 {
+                        should_split(input, available).compare_output_only(tally, SPLIT_NUMBERS);
                     }
                 }
             }
         }
         for le in [0, 256, EXPECTED_MAX] {
-            let asked = Asked::new(HEADERS[1], le, mode, &row);
+            let input = BuilderInput::new(HEADERS[1], le, mode, &string);
             for available in 0..=65_545 {
-                step(asked, available).compare_unread(tally, SPLIT_NUMBERS);
+                should_split(input, available).compare_output_only(tally, SPLIT_NUMBERS);
             }
         }
     }
 }
 
 /// Every class byte, and every mode byte.
-fn every_class_and_mode(tally: &mut Tally, inputs: &mut Inputs) {
-    let row = inputs.bytes(300);
+fn every_class_and_mode(tally: &mut Tally, random: &mut Random) {
+    let string = random.bytes(300);
     for (byte, n, available) in triples(0..=u8::MAX, [0, 1, 5, 255, 256, 300], [9, 10, 12, 100, 261, 400]) {
-        let le = some_expected(inputs, &EXPECTED);
+        let le = random_expected_len(random, &EXPECTED_LENGTHS);
         let header = [byte, byte ^ 0x55, byte.wrapping_add(1), 0];
         for mode in [0, 1, 2, byte] {
-            let asked = Asked::new(header, le, mode, &row[..n]);
-            step(asked, available).compare_numbers(tally, SPLIT_NUMBERS);
+            let input = BuilderInput::new(header, le, mode, &string[..n]);
+            should_split(input, available).compare_numbers(tally, SPLIT_NUMBERS);
         }
-        chains::Asked::new(header, &row[..n], le as u16, available).cut(tally, (1, 1), 5);
+        chains::ChainInput::new(header, &string[..n], le as u16, available).compare_whole(tally, (1, 1), 5);
     }
 }
 
-/// Any step.
-pub fn random_step(tally: &mut Tally, inputs: &mut Inputs) {
-    let row = inputs.row();
-    let n = some_len(inputs).min(row.len());
-    let mode = some_mode(inputs);
-    let (header, le) = (some_header(inputs), some_expected(inputs, &EXPECTED));
-    let start = inputs.below(row.len() - n + 1);
-    let asked = Asked::new(header, le, mode, &row[start..start + n]);
-    let available = some_len(inputs);
-    let len = inputs.below(SPLIT_NUMBERS + 2);
-    step_under(tally, 700, asked, available, len);
+/// A random step.
+pub fn random_step(tally: &mut Tally, random: &mut Random) {
+    let string = random.long_string();
+    let n = random_len(random).min(string.len());
+    let mode = random_mode(random);
+    let (header, le) = (random_header(random), random_expected_len(random, &EXPECTED_LENGTHS));
+    let start = random.below(string.len() - n + 1);
+    let input = BuilderInput::new(header, le, mode, &string[start..start + n]);
+    let available = random_len(random);
+    let len = random.below(SPLIT_NUMBERS + 2);
+    compare_step(tally, 700, input, available, len);
     if available > 12 && n < 700 {
-        parts(tally, asked, available);
+        compare_parts(tally, input, available);
     }
 }
 
-/// Whole chains with every expected length to 257: data and buffers around each boundary, and the longest data.
-fn every_expected_length(tally: &mut Tally, inputs: &mut Inputs) {
-    let row = inputs.bytes(65_535);
-    let before = row.clone();
+/// Whole chains with every expected length up to 257: data and buffers around each boundary, and the longest data.
+fn every_expected_length(tally: &mut Tally, random: &mut Random) {
+    let string = random.bytes(65_535);
+    let before = string.clone();
     let lengths = [0, 1, 4, 5, 300, 261, 255, 256, 257, 600, 600, 600, 2_000, 65_535];
     let buffers = [10, 10, 10, 10, 10, 11, 261, 261, 261, 261, 260, 300, 100, 261];
     for le in 0..=257 {
         for (n, available) in lengths.into_iter().zip(buffers) {
-            let header = inputs.one_of(MADE);
-            let asked = chains::Asked::new(header, &row[65_535 - n..], le, available);
-            asked.cut(tally, (inputs.below(3), inputs.below(3)), 1 + inputs.below(40));
+            let header = random.one_of(ACCEPTED_HEADERS);
+            let input = chains::ChainInput::new(header, &string[65_535 - n..], le, available);
+            input.compare_whole(tally, (random.below(3), random.below(3)), 1 + random.below(40));
         }
-        let (n, available) = (inputs.below(65_536), 60 + inputs.below(700));
-        let asked = chains::Asked::new(some_header(inputs), &row[..n], le, available);
-        asked.cut(tally, (inputs.below(3), 1), 20);
+        let (n, available) = (random.below(65_536), 60 + random.below(700));
+        let input = chains::ChainInput::new(random_header(random), &string[..n], le, available);
+        input.compare_whole(tally, (random.below(3), 1), 20);
     }
-    assert!(*black_box(&row) == before, "a call changed data");
+    assert!(*black_box(&string) == before, "a call changed data");
 }
 
-/// Whole chains of many pieces: the longest data into the smallest buffers.
-fn most_pieces(tally: &mut Tally, inputs: &mut Inputs) {
-    let row = inputs.bytes(65_535);
+/// Whole chains of many pieces: the longest data in the smallest buffers.
+fn most_pieces(tally: &mut Tally, random: &mut Random) {
+    let string = random.bytes(65_535);
     for (le, available) in [(0, 10), (1, 10), (256, 10), (65_535, 10), (0, 11), (5, 12)] {
-        chains::Asked::new(HEADERS[1], &row, le, available).cut(tally, (0, 1), 1_000);
+        chains::ChainInput::new(HEADERS[1], &string, le, available).compare_whole(tally, (0, 1), 1_000);
     }
 }
 
 /// Whole chains for every buffer from 10 to 270, and large ones.
-fn every_buffer(tally: &mut Tally, inputs: &mut Inputs) {
-    let row = inputs.bytes(65_535);
+fn every_buffer(tally: &mut Tally, random: &mut Random) {
+    let string = random.bytes(65_535);
     let buffers = (10..=270).chain([511, 512, 65_535, 65_536, 70_000, 1 << 32, usize::MAX]);
     let lengths = [0, 1, 2, 9, 250, 254, 255, 256, 257, 510, 511, 512, 766];
     for (available, n, le) in triples(buffers, lengths, [0, 1, 256, 257, 65_535]) {
-        let asked = chains::Asked::new(inputs.one_of(MADE), &row[..n], le, available);
-        asked.cut(tally, (inputs.below(3), inputs.below(2)), 30);
+        let input = chains::ChainInput::new(random.one_of(ACCEPTED_HEADERS), &string[..n], le, available);
+        input.compare_whole(tally, (random.below(3), random.below(2)), 30);
     }
     for _ in 0..40 {
-        let (n, available) = (inputs.below(65_536), 10 + inputs.below(65_600));
-        let le = some_expected(inputs, &EXPECTED) as u16;
-        let asked = chains::Asked::new(some_header(inputs), &row[..n], le, available);
-        asked.cut(tally, (inputs.below(3), 1), 50);
+        let (n, available) = (random.below(65_536), 10 + random.below(65_600));
+        let le = random_expected_len(random, &EXPECTED_LENGTHS) as u16;
+        let input = chains::ChainInput::new(random_header(random), &string[..n], le, available);
+        input.compare_whole(tally, (random.below(3), 1), 50);
     }
 }
 
-/// Chains that are not made: 3, 13, and 14 for every buffer under 10.
-fn not_made(tally: &mut Tally, inputs: &mut Inputs) {
-    let row = inputs.bytes(131_072);
+/// Chains that are refused: 3, 13, and 14 for every buffer under 10.
+fn refused_chains(tally: &mut Tally, random: &mut Random) {
+    let string = random.bytes(131_072);
     let lengths = lengths().chain([65_791, 65_792, 131_072]);
     let cases = triples(lengths, (0..=10).chain([261]), [HEADERS[0], HEADERS[5], HEADERS[6]]);
     for ((n, available, header), le) in pairs(cases, [0, 1, 257]) {
         if n <= 300 || available != 10 {
-            let mut asked = chains::Asked::new(header, &row[..n], le, available);
-            asked.cut(tally, (1, 1), 9);
-            asked.chain.place = inputs.below(4);
-            chains::next(asked, inputs.below(3)).compare(tally, 20, inputs.below(7));
+            let mut input = chains::ChainInput::new(header, &string[..n], le, available);
+            input.compare_whole(tally, (1, 1), 9);
+            input.pieces.place = random.below(4);
+            chains::write_next(input, random.below(3)).compare(tally, 20, random.below(7));
         }
     }
 }
 
-/// A single piece of a chain in any state, into any buffer.
-fn random_piece(tally: &mut Tally, inputs: &mut Inputs) {
-    let row = inputs.row();
-    let n = some_len(inputs).min(row.len());
-    let le = some_expected(inputs, &EXPECTED) as u16;
-    let available = some_len(inputs);
-    let mut asked = chains::Asked::new(some_header(inputs), &row[..n], le, available);
-    asked.chain.place = match inputs.below(8) {
-        0 => n + inputs.below(3),
-        1 => inputs.one_of(&[usize::MAX, 1 << 32, 65_536, 70_000]),
-        2..=3 => n.saturating_sub(inputs.below(300)),
-        _ => inputs.below(n + 1),
+/// A single piece of a random chain at a random place, in a random buffer.
+fn random_piece(tally: &mut Tally, random: &mut Random) {
+    let string = random.long_string();
+    let n = random_len(random).min(string.len());
+    let le = random_expected_len(random, &EXPECTED_LENGTHS) as u16;
+    let available = random_len(random);
+    let mut input = chains::ChainInput::new(random_header(random), &string[..n], le, available);
+    input.pieces.place = match random.below(8) {
+        0 => n + random.below(3),
+        1 => random.one_of(&[usize::MAX, 1 << 32, 65_536, 70_000]),
+        2..=3 => n.saturating_sub(random.below(300)),
+        _ => random.below(n + 1),
     };
-    asked.chain.done = inputs.below(16) == 0;
-    let most = inputs.one_of(&[20, 300, 300, 300]);
-    let buffer_len = inputs.below(most);
-    let at = match inputs.below(16) {
-        0 => buffer_len + inputs.below(3),
-        1 => usize::MAX - inputs.below(12),
-        _ => inputs.below(8),
+    input.pieces.done = random.below(16) == 0;
+    let most = random.one_of(&[20, 300, 300, 300]);
+    let buffer_len = random.below(most);
+    let at = match random.below(16) {
+        0 => buffer_len + random.below(3),
+        1 => usize::MAX - random.below(12),
+        _ => random.below(8),
     };
-    let len = if inputs.below(8) == 0 { inputs.below(5) } else { 5 + inputs.below(2) };
-    chains::next(asked, at).compare(tally, buffer_len, len);
+    let len = if random.below(8) == 0 { random.below(5) } else { 5 + random.below(2) };
+    chains::write_next(input, at).compare(tally, buffer_len, len);
 }
 
-/// A whole chain of any data, and single pieces of others.
-pub fn random_chain(tally: &mut Tally, inputs: &mut Inputs) {
+/// A whole chain of random data, and single pieces of other chains.
+pub fn random_chain(tally: &mut Tally, random: &mut Random) {
     for _ in 0..20 {
-        random_piece(tally, inputs);
+        random_piece(tally, random);
     }
-    let row = inputs.row();
-    let available = match inputs.below(4) {
-        0 => some_len(inputs),
-        1 => inputs.below(30),
-        _ => 10 + inputs.below(300),
+    let string = random.long_string();
+    let available = match random.below(4) {
+        0 => random_len(random),
+        1 => random.below(30),
+        _ => 10 + random.below(300),
     };
-    // Not too many pieces; of data that are too long, none.
-    let n = match inputs.below(64) {
-        0 => 65_536 + inputs.below(row.len() - 65_535),
-        1..=8 => some_len(inputs).min(available.saturating_mul(40)),
-        _ => inputs.below(2_000),
+    // Not too many pieces; none if the data are too long.
+    let n = match random.below(64) {
+        0 => 65_536 + random.below(string.len() - 65_535),
+        1..=8 => random_len(random).min(available.saturating_mul(40)),
+        _ => random.below(2_000),
     };
-    let n = n.min(row.len());
-    let le = some_expected(inputs, &EXPECTED) as u16;
-    let asked = chains::Asked::new(some_header(inputs), &row[..n], le, available);
-    asked.cut(tally, (inputs.below(3), inputs.below(3)), 1 + inputs.below(40));
+    let n = n.min(string.len());
+    let le = random_expected_len(random, &EXPECTED_LENGTHS) as u16;
+    let input = chains::ChainInput::new(random_header(random), &string[..n], le, available);
+    input.compare_whole(tally, (random.below(3), random.below(3)), 1 + random.below(40));
 }
 
-pub fn compare(tally: &mut Tally, inputs: &mut Inputs) {
-    edges::steps(tally);
-    edges::pieces(tally);
-    every_boundary(tally, inputs);
-    every_small_step(tally, inputs);
-    every_class_and_mode(tally, inputs);
+/// The short run.
+pub fn compare(tally: &mut Tally, random: &mut Random) {
+    document_cases::steps(tally);
+    document_cases::pieces(tally);
+    every_boundary(tally, random);
+    every_small_step(tally, random);
+    every_class_and_mode(tally, random);
     for _ in 0..150_000 {
-        random_step(tally, inputs);
+        random_step(tally, random);
     }
-    every_expected_length(tally, inputs);
-    most_pieces(tally, inputs);
-    every_buffer(tally, inputs);
-    not_made(tally, inputs);
+    every_expected_length(tally, random);
+    most_pieces(tally, random);
+    every_buffer(tally, random);
+    refused_chains(tally, random);
     for _ in 0..150_000 {
-        random_piece(tally, inputs);
+        random_piece(tally, random);
     }
 }

@@ -4,27 +4,26 @@ use std::collections::BTreeMap;
 use std::process;
 use std::sync::atomic::{AtomicU64, Ordering};
 
-use gorvisclen::{Refused, Reply};
-
+use crate::answer::reply_number;
 use crate::lent::Outcome;
-use crate::record::File;
+use crate::recording::Recording;
 
 /// The program stops at this many mismatches, in all threads together.
-const MOST: u64 = 20;
+const MISMATCH_LIMIT: u64 = 20;
 static MISMATCHES: AtomicU64 = AtomicU64::new(0);
 
-/// What a call counts for; and each of its numbers, where it is done.
-pub type Names = (&'static str, &'static [&'static str]);
+/// The label that a call is counted under; and one for each of its numbers, if the call is not refused.
+pub type Labels = (&'static str, &'static [&'static str]);
 
-/// What stands in the name of an operation that the Rust does not have, and what it is held to instead.
-const HELD_TO: [(&str, &str); 4] = [
-    ("held to a table", "table"),
-    ("held to a rule", "rule"),
-    ("held to a model", "model"),
-    ("held to document 01", "paper"),
+/// Words in the label of an operation that the Rust does not have, and a name for what it is compared with instead.
+const OTHER_REFERENCES: [(&str, &str); 4] = [
+    ("checked against a table", "table"),
+    ("checked against a rule", "rule"),
+    ("checked against a model", "model"),
+    ("checked against document 01", "document 01"),
 ];
 
-/// The cases of one name: how many there are, and how many of them demand each reply.
+/// The cases of one label: how many they are, and how many of them must get each reply.
 #[derive(Default)]
 struct Count {
     cases: u64,
@@ -36,16 +35,11 @@ pub struct Tally {
     counts: BTreeMap<&'static str, Count>,
     calls: u64,
     /// Where calls are recorded, if they are.
-    pub file: Option<File>,
-}
-
-/// The number that an exported function replies.
-fn number_of(reply: Reply) -> u8 {
-    reply.map_or_else(|Refused(n)| n, |()| 0)
+    pub recording: Option<Recording>,
 }
 
 impl Count {
-    /// The demanded replies in words: nothing, if all are done.
+    /// The replies in words; empty if no case is refused.
     fn replies(&self) -> String {
         if self.replies.keys().all(|&reply| reply == 0) {
             return String::new();
@@ -59,61 +53,64 @@ impl Count {
 }
 
 impl Tally {
-    /// Counts cases of one reply, and where it is done, as many for each operation that `numbers` names.
-    pub fn count(&mut self, (operation, numbers): Names, reply: u8, cases: u64) {
+    /// Counts cases with one reply. If that is not a refusal, they count under the label of each number too.
+    pub fn count(&mut self, (label, number_labels): Labels, reply: u8, cases: u64) {
         if cases == 0 {
             return;
         }
         self.calls += cases;
-        let count = self.counts.entry(operation).or_default();
+        let count = self.counts.entry(label).or_default();
         count.cases += cases;
         *count.replies.entry(reply).or_default() += cases;
         if reply == 0 {
-            for name in numbers {
-                self.counts.entry(name).or_default().cases += cases;
+            for label in number_labels {
+                self.counts.entry(label).or_default().cases += cases;
             }
         }
     }
 
-    /// Compares one call. Its reply and all that was lent count for `operation`; where it is done, the numbers that it
-    /// wrote count each for the operation that `numbers` names.
+    /// Compares the outcomes of one call, and prints a mismatch. The call counts under its label. If neither outcome is
+    /// a refusal, it counts under the label of each number too.
     pub fn compare(
         &mut self,
-        (operation, numbers): Names,
+        (label, number_labels): Labels,
         input: impl Fn() -> String,
-        demanded: &Outcome,
+        reference: &Outcome,
         ours: &Outcome,
     ) {
-        let both_done = demanded.reply.is_ok() && ours.reply.is_ok();
-        let told = if both_done { numbers } else { &[] };
-        self.count((operation, told), number_of(demanded.reply), 1);
-        if demanded == ours {
+        let both_done = reference.reply.is_ok() && ours.reply.is_ok();
+        let counted_numbers = if both_done { number_labels } else { &[] };
+        self.count((label, counted_numbers), reply_number(reference.reply), 1);
+        if reference == ours {
             return;
         }
-        let differs = |&i: &usize| both_done && demanded.out.at(i) != ours.out.at(i);
-        let number = (0..numbers.len()).find(differs).map(|i| numbers[i]);
-        let name = number.unwrap_or(operation);
-        let held_to = HELD_TO.iter().find(|(words, _)| name.contains(words));
-        let theirs = held_to.map_or("rust", |(_, to)| to);
-        // Printed at once, since other threads print too.
-        println!(
-            "mismatch: {name}, by a call of {operation}\n  input: {}\n  first: {}\n  {theirs:5}: {demanded}\n  ours : {ours}",
-            input(),
-            demanded.differs(ours)
-        );
-        if MISMATCHES.fetch_add(1, Ordering::Relaxed) + 1 == MOST {
-            println!("stopped after {MOST} mismatches");
+        let differs = |&i: &usize| both_done && reference.out.at(i) != ours.out.at(i);
+        let number = (0..number_labels.len()).find(differs).map(|i| number_labels[i]);
+        let name = number.unwrap_or(label);
+        let other = OTHER_REFERENCES.iter().find(|(words, _)| name.contains(words));
+        let reference_name = other.map_or("rust", |(_, name)| name);
+        let lines = [
+            format!("mismatch: {name}, by a call of {label}"),
+            format!("  input: {}", input()),
+            format!("  first: {}", reference.first_difference(ours)),
+            format!("  {reference_name:5}: {reference}"),
+            format!("  ours : {ours}"),
+        ];
+        // Printed at once, because other threads print too.
+        println!("{}", lines.join("\n"));
+        if MISMATCHES.fetch_add(1, Ordering::Relaxed) + 1 == MISMATCH_LIMIT {
+            println!("stopped after {MISMATCH_LIMIT} mismatches");
             process::exit(1);
         }
     }
 
-    /// Adds the counts of another.
+    /// Adds the counts of another tally.
     pub fn add(&mut self, other: Tally) {
         self.calls += other.calls;
-        for (name, theirs) in other.counts {
-            let count = self.counts.entry(name).or_default();
-            count.cases += theirs.cases;
-            for (reply, cases) in theirs.replies {
+        for (label, added) in other.counts {
+            let count = self.counts.entry(label).or_default();
+            count.cases += added.cases;
+            for (reply, cases) in added.replies {
                 *count.replies.entry(reply).or_default() += cases;
             }
         }
@@ -124,7 +121,7 @@ impl Tally {
         self.calls
     }
 
-    /// How many of them had to be refused with a number.
+    /// How many of them must be refused with this number.
     pub fn refused(&self, number: u8) -> u64 {
         let replies = self.counts.values().map(|count| &count.replies);
         replies.filter_map(|replies| replies.get(&number)).sum()
@@ -137,8 +134,8 @@ impl Tally {
 
     /// Prints the counts by operation and reply.
     pub fn print(&self) {
-        for (name, count) in &self.counts {
-            println!("compared {:>9}  {name}{}", count.cases, count.replies());
+        for (label, count) in &self.counts {
+            println!("compared {:>9}  {label}{}", count.cases, count.replies());
         }
     }
 }

@@ -1,54 +1,55 @@
-//! BER records: every string of up to three bytes as a tag, a length and an object; nested records, whole, damaged and cut;
-//! objects written; and what else each test below says. The crate's reading runs beside the Rust, which says `None` for 11 and
-//! for 12: a model says which. The standard reading, which the Rust does not have, runs beside that model.
+//! BER records: every string of up to three bytes as a tag, a length and an object; nested records, whole, damaged and
+//! cut; objects that are written; and the other tests below. The crate's reading is compared with the Rust. The Rust
+//! returns `None` for 11 and for 12: a model says which. The standard reading, which the Rust does not have, is
+//! compared with that model.
 
-mod edges;
-mod front;
+mod benchmark;
+mod document_cases;
+mod labels;
 mod lookup;
 mod model;
-mod names;
 mod records;
-mod timed;
+mod take;
 mod writing;
 
 use gorvisclen::{CRATE_READING, LEN_NUMBERS, LOOKUP_NUMBERS, OBJECT_NUMBERS, STANDARD_READING, TAG_NUMBERS};
 
-use self::front::{Front, Len, Object, Tag};
+pub use self::benchmark::bench;
 use self::lookup::{find, value, Lookup};
-use self::records::{length_forms, long_record, some_paths, some_record, Record};
-pub use self::timed::time;
-pub use self::writing::{every_boundary as every_written_boundary, random as random_writing};
+use self::records::{length_forms, long_record, random_paths, random_record, Record};
+use self::take::{Len, Object, Tag, Take};
+pub use self::writing::{every_boundary as every_written_boundary, random_cases as random_writing};
 use crate::call::Call;
-use crate::inputs::Inputs;
 use crate::loops::{pairs, triples};
+use crate::random::Random;
 use crate::tally::Tally;
 
-/// What the front of some bytes is read as, with `out` long enough and too short.
-fn every_front(tally: &mut Tally, inputs: &mut Inputs, bytes: &[u8]) {
-    for reading in [CRATE_READING, 1 + inputs.below(255) as u8] {
-        Tag::compare(tally, reading, bytes, TAG_NUMBERS + inputs.below(3));
-        Len::compare(tally, reading, bytes, LEN_NUMBERS + inputs.below(3));
-        Object::compare(tally, reading, bytes, OBJECT_NUMBERS + inputs.below(3));
-        match inputs.below(3) {
-            0 => Tag::compare(tally, reading, bytes, inputs.below(TAG_NUMBERS)),
-            1 => Len::compare(tally, reading, bytes, inputs.below(LEN_NUMBERS)),
-            _ => Object::compare(tally, reading, bytes, inputs.below(OBJECT_NUMBERS)),
+/// A tag, a length and an object from the front of some bytes, with `out` long enough and too short.
+fn every_take(tally: &mut Tally, random: &mut Random, bytes: &[u8]) {
+    for reading in [CRATE_READING, 1 + random.below(255) as u8] {
+        Tag::compare(tally, reading, bytes, TAG_NUMBERS + random.below(3));
+        Len::compare(tally, reading, bytes, LEN_NUMBERS + random.below(3));
+        Object::compare(tally, reading, bytes, OBJECT_NUMBERS + random.below(3));
+        match random.below(3) {
+            0 => Tag::compare(tally, reading, bytes, random.below(TAG_NUMBERS)),
+            1 => Len::compare(tally, reading, bytes, random.below(LEN_NUMBERS)),
+            _ => Object::compare(tally, reading, bytes, random.below(OBJECT_NUMBERS)),
         }
     }
 }
 
-/// A lookup by place and by content, with `out` and `to` of lengths around those that it needs.
-fn every_lookup(tally: &mut Tally, inputs: &mut Inputs, record: &[u8], path: &[u32]) {
-    for reading in [CRATE_READING, 1 + inputs.below(255) as u8] {
-        let lookup = Lookup::of(reading, record, path);
+/// A lookup of the place and of the bytes of a value, with `out` and `to` around the lengths that it needs.
+fn every_lookup(tally: &mut Tally, random: &mut Random, record: &[u8], path: &[u32]) {
+    for reading in [CRATE_READING, 1 + random.below(255) as u8] {
+        let lookup = Lookup::new(reading, record, path);
         let (find, value) = (find(lookup), value(lookup));
-        find.compare_numbers(tally, LOOKUP_NUMBERS + inputs.below(3));
+        find.compare_numbers(tally, LOOKUP_NUMBERS + random.below(3));
         let n = lookup.len();
-        value.compare(tally, n + inputs.below(3), 1 + inputs.below(2));
-        match inputs.below(3) {
-            0 => find.compare_numbers(tally, inputs.below(LOOKUP_NUMBERS)),
+        value.compare(tally, n + random.below(3), 1 + random.below(2));
+        match random.below(3) {
+            0 => find.compare_numbers(tally, random.below(LOOKUP_NUMBERS)),
             1 => value.compare(tally, n.saturating_sub(1), 1),
-            _ => value.compare(tally, inputs.below(n + 1), inputs.below(2)),
+            _ => value.compare(tally, random.below(n + 1), random.below(2)),
         }
     }
 }
@@ -62,23 +63,23 @@ fn every_short_string(tally: &mut Tally) {
     }
 }
 
-/// Objects with values of every length to 300 and around the most, each form of the length; the value whole, a byte short, and
-/// with a byte behind it.
-pub fn every_length(tally: &mut Tally, inputs: &mut Inputs) {
+/// Objects with values of every length up to 300 and around the longest, and each form of the length. The value is
+/// whole, a byte too short, and has a byte after it.
+pub fn every_length(tally: &mut Tally, random: &mut Random) {
     for n in (0..=300).chain(65_533..=65_535) {
         for form in length_forms(n) {
             let header = [&[0x5F, 0x24], &form[..]].concat();
-            let row = [&header[..], &inputs.bytes(n + 1)].concat();
-            for end in [row.len() - 1, row.len() - 2, row.len()] {
-                every_front(tally, inputs, &row[..end]);
-                every_lookup(tally, inputs, &row[..end], &[0x5F24]);
+            let string = [&header[..], &random.bytes(n + 1)].concat();
+            for end in [string.len() - 1, string.len() - 2, string.len()] {
+                every_take(tally, random, &string[..end]);
+                every_lookup(tally, random, &string[..end], &[0x5F24]);
             }
             Len::compare(tally, CRATE_READING, &form, LEN_NUMBERS);
         }
     }
 }
 
-/// Every reading and every length of what is lent, to more than is needed.
+/// Every reading, and every length of the lent buffers up to more than is needed.
 fn every_buffer(tally: &mut Tally) {
     let records: [&[u8]; 7] = [
         &[],
@@ -95,7 +96,7 @@ fn every_buffer(tally: &mut Tally) {
         Len::compare(tally, reading, record, len);
         Object::compare(tally, reading, record, len);
         for path in paths {
-            let lookup = Lookup::of(reading, record, path);
+            let lookup = Lookup::new(reading, record, path);
             find(lookup).compare_numbers(tally, len);
             for to_len in 0..=lookup.len() + 1 {
                 value(lookup).compare(tally, to_len, len);
@@ -104,116 +105,118 @@ fn every_buffer(tally: &mut Tally) {
     }
 }
 
-/// Bytes read as a record, along the paths; and the front of what they have from some place on.
-fn every_operation(tally: &mut Tally, inputs: &mut Inputs, bytes: &[u8], paths: &[Vec<u32>]) {
+/// Looks up the paths in some bytes; takes from their front, and from a random place in them.
+fn every_operation(tally: &mut Tally, random: &mut Random, bytes: &[u8], paths: &[Vec<u32>]) {
     for path in paths {
-        every_lookup(tally, inputs, bytes, path);
+        every_lookup(tally, random, bytes, path);
     }
-    every_front(tally, inputs, bytes);
-    let at = inputs.below(bytes.len() + 1);
-    every_front(tally, inputs, &bytes[at..]);
+    every_take(tally, random, bytes);
+    let at = random.below(bytes.len() + 1);
+    every_take(tally, random, &bytes[at..]);
 }
 
-/// A nested record of a depth: whole, with a byte changed, damaged, and cut.
-fn nested(tally: &mut Tally, inputs: &mut Inputs, depth: usize) {
-    let record = some_record(inputs, depth);
-    let paths = some_paths(inputs, &record);
-    every_operation(tally, inputs, &record.bytes, &paths);
+/// A nested record of this depth: whole, with a byte changed, damaged, and cut.
+fn nested(tally: &mut Tally, random: &mut Random, depth: usize) {
+    let record = random_record(random, depth);
+    let paths = random_paths(random, &record);
+    every_operation(tally, random, &record.bytes, &paths);
     let (some, others) = paths.split_at(4);
-    let changed = inputs.one_byte_off(&record.bytes);
-    every_operation(tally, inputs, &changed, some);
-    let damaged = inputs.damaged(&record.bytes);
-    every_operation(tally, inputs, &damaged, others);
-    let cut = &record.bytes[..inputs.below(record.bytes.len() + 1)];
-    every_operation(tally, inputs, cut, some);
+    let changed = random.one_byte_off(&record.bytes);
+    every_operation(tally, random, &changed, some);
+    let damaged = random.damaged(&record.bytes);
+    every_operation(tally, random, &damaged, others);
+    let cut = &record.bytes[..random.below(record.bytes.len() + 1)];
+    every_operation(tally, random, cut, some);
 }
 
-/// Records that are cut at every place, and that have each byte changed.
-fn every_cut(tally: &mut Tally, inputs: &mut Inputs) {
+/// Records that are cut at every place, and with each byte changed.
+fn every_cut(tally: &mut Tally, random: &mut Random) {
     for i in 0..140 {
-        let Record { mut bytes, paths } = some_record(inputs, 1 + i % 6);
+        let Record { mut bytes, paths } = random_record(random, 1 + i % 6);
         bytes.truncate(200);
-        let path = &paths[inputs.below(paths.len())];
+        let path = &paths[random.below(paths.len())];
         for at in 0..=bytes.len() {
-            every_lookup(tally, inputs, &bytes[..at], path);
+            every_lookup(tally, random, &bytes[..at], path);
         }
         for at in 0..bytes.len() {
             let mut changed = bytes.clone();
-            changed[at] ^= 1 + inputs.below(255) as u8;
-            every_lookup(tally, inputs, &changed, path);
+            changed[at] ^= 1 + random.below(255) as u8;
+            every_lookup(tally, random, &changed, path);
         }
     }
 }
 
-/// Long records of many small objects: the last one, at the top and in a template, one that is missing, and cut copies.
-fn long(tally: &mut Tally, inputs: &mut Inputs) {
+/// Long records of many small objects: looks up the last object of the record and of a template, and one that is
+/// missing; and the same in cut copies.
+fn long(tally: &mut Tally, random: &mut Random) {
     for (outer, inner) in pairs([200, 60_000, 65_500, 66_000, 140_000], [20, 300, 33_000, 65_500]) {
-        let record = long_record(inputs, outer, inner);
+        let record = long_record(random, outer, inner);
         let [top, inside] = [&record.paths[0][..], &record.paths[1]];
         let len = record.bytes.len();
         let missing = [inside[0], 0x5F2A];
         for path in [&[], top, inside, &missing, &missing[1..]] {
-            every_lookup(tally, inputs, &record.bytes, path);
+            every_lookup(tally, random, &record.bytes, path);
         }
-        for cut in [1, 3, 4, 7, 1 + inputs.below(len)] {
-            every_lookup(tally, inputs, &record.bytes[..len - cut], top);
-            every_lookup(tally, inputs, &record.bytes[..len - cut], inside);
+        for cut in [1, 3, 4, 7, 1 + random.below(len)] {
+            every_lookup(tally, random, &record.bytes[..len - cut], top);
+            every_lookup(tally, random, &record.bytes[..len - cut], inside);
         }
     }
 }
 
-/// Many small objects of one tag, and the due date behind them.
-pub fn behind_many(tally: &mut Tally, inputs: &mut Inputs) {
+/// Many small objects with the same tag, then the due date.
+pub fn after_many(tally: &mut Tally, random: &mut Random) {
     for (len, byte) in [(7, 5), (700, 5), (65_002, 5), (64_999, 2), (65_530, 0), (601, 5)] {
         let record = [&vec![byte; len][..], &[0x5F, 0x24, 0x03, 0x26, 0x10, 0x09]].concat();
         for path in [&[0x5F24][..], &[byte.into()], &[0x5F25], &[0x26], &[]] {
-            every_lookup(tally, inputs, &record, path);
+            every_lookup(tally, random, &record, path);
         }
     }
 }
 
-/// A row of any bytes; every second one is small, a tag of one byte or a length that may fit.
-fn any_bytes(tally: &mut Tally, inputs: &mut Inputs) {
-    let most = inputs.one_of(&[5, 12, 40]);
-    let n = inputs.below(most);
-    let mut bytes = inputs.bytes(n);
+/// Random bytes. Every second one is small: a tag of one byte, or a length that may fit.
+fn random_bytes(tally: &mut Tally, random: &mut Random) {
+    let most = random.one_of(&[5, 12, 40]);
+    let n = random.below(most);
+    let mut bytes = random.bytes(n);
     bytes.iter_mut().step_by(2).for_each(|byte| *byte %= 64);
     let first = bytes.iter().take(1).map(|&byte| byte.into()).collect();
-    every_operation(tally, inputs, &bytes, &[Vec::new(), first]);
+    every_operation(tally, random, &bytes, &[Vec::new(), first]);
 }
 
-/// Tag and length of an object, or its length alone, cut at any place.
-fn cut_header(tally: &mut Tally, inputs: &mut Inputs) {
+/// Tag and length of an object, or only its length, cut at a random place.
+fn cut_header(tally: &mut Tally, random: &mut Random) {
     let tags: [&[u8]; 4] = [&[], &[0x5A], &[0x5F, 0x24], &[0xDF, 0x81, 0x01]];
-    let forms = length_forms(inputs.below(300));
-    let form = &forms[inputs.below(forms.len())];
-    let header = [inputs.one_of(&tags), form].concat();
-    let at = inputs.below(header.len() + 1);
-    every_front(tally, inputs, &header[..at]);
+    let forms = length_forms(random.below(300));
+    let form = &forms[random.below(forms.len())];
+    let header = [random.one_of(&tags), form].concat();
+    let at = random.below(header.len() + 1);
+    every_take(tally, random, &header[..at]);
 }
 
-/// A nested record of any depth to 6, rows of any bytes, and cut headers.
-pub fn random(tally: &mut Tally, inputs: &mut Inputs) {
-    let depth = inputs.below(7);
-    nested(tally, inputs, depth);
+/// A nested record of a random depth up to 6, random bytes, and cut headers.
+pub fn random_cases(tally: &mut Tally, random: &mut Random) {
+    let depth = random.below(7);
+    nested(tally, random, depth);
     for _ in 0..4 {
-        any_bytes(tally, inputs);
-        cut_header(tally, inputs);
+        random_bytes(tally, random);
+        cut_header(tally, random);
     }
 }
 
-pub fn compare(tally: &mut Tally, inputs: &mut Inputs) {
-    edges::compare(tally, inputs);
+/// The short run.
+pub fn compare(tally: &mut Tally, random: &mut Random) {
+    document_cases::compare(tally, random);
     every_short_string(tally);
-    every_length(tally, inputs);
+    every_length(tally, random);
     every_buffer(tally);
     for i in 0..14_000 {
-        nested(tally, inputs, i % 7);
+        nested(tally, random, i % 7);
     }
-    every_cut(tally, inputs);
-    long(tally, inputs);
+    every_cut(tally, random);
+    long(tally, random);
     for _ in 0..20_000 {
-        any_bytes(tally, inputs);
+        random_bytes(tally, random);
     }
-    writing::compare(tally, inputs);
+    writing::compare(tally, random);
 }

@@ -1,4 +1,4 @@
-//! The class byte.
+//! The class byte of a command.
 
 use crate::exported;
 
@@ -9,18 +9,26 @@ pub const CLASS_NUMBERS: usize = 11;
 pub const CLASS_CONSTANTS: usize = 3;
 
 exported! {
-    /// The class of a byte, in 11 numbers: the byte; its range (0 first interindustry, 1 further, 2 reserved, 3 proprietary);
-    /// secure messaging in the crate's reading and in the standard's (0 none, 1 proprietary, 2 standard, 3 authenticated,
-    /// 4 unknown); whether the one and the other is none; the chain (0 last or only, 1 not the last, 2 unknown) and its two
-    /// tests; the channel in the crate's reading and in the standard's (or `NONE`).
+    /// The class of a byte, in 11 numbers:
+    ///
+    /// - `out[0]`: the byte
+    /// - `out[1]`: its range: 0 first interindustry, 1 further interindustry, 2 reserved, 3 proprietary
+    /// - `out[2]`, `out[3]`: secure messaging in the crate's reading and in the standard reading: 0 none,
+    ///   1 proprietary, 2 standard, 3 authenticated, 4 unknown
+    /// - `out[4]`, `out[5]`: whether these two are none
+    /// - `out[6]`: the chain: 0 last or only, 1 not the last, 2 unknown
+    /// - `out[7]`, `out[8]`: whether it is last or only, and whether it is not the last
+    /// - `out[9]`, `out[10]`: the channel in the crate's reading and in the standard reading, or `NONE`
+    ///
+    /// Refusals: 3, 16.
     fn class(cla: u8, out: numbers);
 
-    /// The same 11 numbers of the class with its chaining bit set.
+    /// The same 11 numbers for the class with its chaining bit set. Refusals: 3, 16.
     fn class_as_chained(cla: u8, out: numbers);
 
-    /// The range of a class byte, as one number.
+    /// The range of a class byte, as one number. Refusals: 3, 16.
     fn range(cla: u8, out: numbers);
 
-    /// The bytes of the three constants: ZERO_CLA, NO_SM_CLA, SM_CLA.
+    /// The class bytes of three constants, in 3 numbers: ZERO_CLA, NO_SM_CLA, SM_CLA. Refusal: 16.
     fn class_constants(out: numbers);
 }

@@ -1,28 +1,31 @@
-//! The functions that the proved library exports, each as a safe Rust function of the same name without its prefix.
+//! The functions that the proved library exports, each as a safe Rust function. The name is the same without the prefix
+//! `gorvisclen_`.
 //!
-//! Every function answers on every input: `Ok`, or `Err` with the refusal's number. A refusal changes nothing that was
-//! lent, save for 18 (see `command_extend`). What lies before and behind the numbers or bytes written stays.
+//! Every function replies to every input: `Ok`, or `Err` with the number of a refusal. A refusal changes no lent
+//! memory, except for 18 (see `command_extend`). Lent memory before and after the numbers or bytes that are written
+//! does not change.
 //!
-//! | No. | Given exactly when |
+//! | No. | Replied exactly when |
 //! |---|---|
 //! | 1 | the command is under 4 bytes |
 //! | 2 | the command's data are longer than the room for an owned copy |
 //! | 3 | the class byte is 0xFF |
-//! | 4 | the first byte behind the command's header is not zero, and no short case fits |
-//! | 5 | the first byte behind the command's header is zero, and no case fits |
+//! | 4 | the first byte after the command's header is not zero, and no short case fits |
+//! | 5 | the first byte after the command's header is zero, and no case fits |
 //! | 6 to 10 | the AID is empty; over 16 bytes; truncated above its length; national under 5; international under 5 |
-//! | 11 | the end was reached at an object boundary: no byte is left where an object would start |
+//! | 11 | the end was reached at an object boundary: there is no byte where an object would start |
 //! | 12 | an object starts here but cannot be read; a length cannot be read |
 //! | 13 | the data of the command to build are above 65,535 bytes |
 //! | 14 | splitting one step: a buffer under 4, or no room for data in it; a chain: a buffer under 10 |
-//! | 15 | extended length is forced where it is unsupported |
-//! | 16 | what was lent for the answer is too short; an object or a command to write does not fit from the named place |
+//! | 15 | extended length is forced, but unsupported |
+//! | 16 | a buffer for the answer is too short; an object or a command to write does not fit from the given place |
 //! | 17 | the piece does not continue the open chain |
-//! | 18 | the held data and the new data exceed the room |
+//! | 18 | the held data and the new data together exceed the room |
 //! | 19 | the value to write is above 65,535 bytes |
 //! | 21 | standard reading: the command has an extended Lc of zero and an Le |
 //!
-//! Where several would be given, the smallest is; but 2 comes behind 3, 4 and 5, and a `buffer` that is too short behind 19.
+//! If several apply, the smallest is replied. But 2 comes after 3, 4 and 5, and 16 comes after 19 when an object is
+//! written.
 
 mod aid;
 mod builder;
@@ -46,23 +49,25 @@ pub use tlv::{
     OBJECT_NUMBERS, TAG_NUMBERS,
 };
 
-/// A refusal's number.
+/// The number of a refusal.
 #[derive(Clone, Copy, Debug, PartialEq, Eq)]
 pub struct Refused(pub u8);
 
+/// What an exported function replies.
 pub type Reply = Result<(), Refused>;
 
-/// The number that stands for "there is none", in the place of a channel or a part's length.
+/// The number that means "there is none", instead of a channel or the length of a part.
 pub const NONE: u64 = 256;
 
-/// The reading of a command or of a BER record that the Rust crate has.
+/// The reading of commands and BER records that the Rust crate has.
 pub const CRATE_READING: u8 = 0;
 
-/// The reading of them that the standard has; every other number but 0 names it too.
+/// The reading of the standard. Every other number except 0 means the same.
 pub const STANDARD_READING: u8 = 1;
 
-/// What an exported function replies, called by its name without the prefix, with arguments of these kinds: a number of a type; a `header` or a `tag` as
-/// its bytes; `bytes` and `tags` to read, `room` and `numbers` to write, each as its pointer and its length.
+/// Calls an exported function by its name without the prefix, and returns the number of its reply. Each argument has a
+/// kind: the type of a number; `header` or `tag`, passed as its bytes; `bytes` or `tags` to read, `room` or `numbers`
+/// to write, passed as a pointer and a length.
 macro_rules! call {
     ($name:ident $(, $kind:ident $arg:expr)*) => {
         crate::call!(@ $name [] [] $($kind $arg,)*)
@@ -72,7 +77,8 @@ macro_rules! call {
             #[link_name = concat!("gorvisclen_", stringify!($name))]
             fn exported($(_: $type),*) -> u8;
         }
-        // The pointers and lengths are those of slices that are borrowed for the call, which keeps none of them.
+        // Safety: the pointers and lengths are those of slices that are borrowed for the call, and the call keeps none
+        // of them.
         unsafe { exported($($value),*) }
     }};
     (@ $name:ident [$($t:tt)*] [$($v:tt)*] header $arg:expr, $($more:tt)*) => {
@@ -99,7 +105,7 @@ macro_rules! call {
 }
 use call;
 
-/// The type of an argument of a kind.
+/// The Rust type for each kind of argument.
 macro_rules! kind {
     (header) => {
         [u8; 4]
@@ -125,7 +131,7 @@ macro_rules! kind {
 }
 use kind;
 
-/// Exported functions by their names and arguments, each as a function of its own.
+/// Defines a safe function for each exported function, by its name and arguments.
 macro_rules! exported {
     ($($(#[$about:meta])* fn $name:ident($($arg:ident: $kind:ident),*);)*) => {$(
         $(#[$about])*
@@ -137,6 +143,7 @@ macro_rules! exported {
 }
 use exported;
 
+/// The reply with this number.
 #[inline]
 fn reply(number: u8) -> Reply {
     match number {

@@ -1,5 +1,5 @@
-//! A stand-in for heapless 0.9 with only what the original Rust uses. Each item's comment says which behaviour of the
-//! real one it has. The elements have to be `Copy + Default` here, which spares the real one's uninitialised memory.
+//! A stand-in for heapless 0.9 with only what the original Rust uses. The comment of each item says how the real one
+//! behaves. Here elements must be `Copy + Default`; so no memory is uninitialised, as it is in the real one.
 #![no_std]
 
 pub mod vec;

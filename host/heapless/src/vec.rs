@@ -1,4 +1,4 @@
-//! The vector of a fixed capacity.
+//! The vector with a fixed capacity.
 
 use core::fmt;
 use core::marker::PhantomData;
@@ -6,7 +6,7 @@ use core::ops::Deref;
 
 use crate::{CapacityError, LenType};
 
-/// As in heapless: the memory of a vector; its size is the capacity.
+/// As in heapless: the memory of a vector. Its size is the capacity.
 pub trait VecStorage<T> {
     fn room(&self) -> &[T];
     fn room_mut(&mut self) -> &mut [T];
@@ -49,7 +49,7 @@ impl<T: Copy, LenT: LenType, S: VecStorage<T>> VecInner<T, LenT, S> {
         self.storage.room().len()
     }
 
-    /// As in heapless: appends all of `other` or, where that exceeds the capacity, nothing.
+    /// As in heapless: appends all of `other`, or nothing if that exceeds the capacity.
     pub fn extend_from_slice(&mut self, other: &[T]) -> Result<(), CapacityError> {
         let len = self.len.into_usize();
         if other.len() > self.capacity() - len {
@@ -62,7 +62,7 @@ impl<T: Copy, LenT: LenType, S: VecStorage<T>> VecInner<T, LenT, S> {
     }
 }
 
-/// As in heapless: reads as the slice of the elements held, whose length is the vector's.
+/// As in heapless: derefs to the slice of the held elements.
 impl<T, LenT: LenType, S: VecStorage<T>> Deref for VecInner<T, LenT, S> {
     type Target = [T];
     fn deref(&self) -> &[T] {
@@ -77,7 +77,7 @@ impl<T: Copy + Default, LenT: LenType, const N: usize> Default for Vec<T, N, Len
     }
 }
 
-/// As in heapless: a copy of the slice, refused where it is longer than the capacity.
+/// As in heapless: a copy of the slice, or an error if it is longer than the capacity.
 impl<T: Copy + Default, LenT: LenType, const N: usize> TryFrom<&[T]> for Vec<T, N, LenT> {
     type Error = CapacityError;
     fn try_from(slice: &[T]) -> Result<Self, CapacityError> {
@@ -87,19 +87,19 @@ impl<T: Copy + Default, LenT: LenType, const N: usize> TryFrom<&[T]> for Vec<T, 
     }
 }
 
-/// As in heapless: prints as the slice of the elements held.
+/// As in heapless: prints the slice of the held elements.
 impl<T: fmt::Debug, LenT: LenType, S: VecStorage<T>> fmt::Debug for VecInner<T, LenT, S> {
     fn fmt(&self, f: &mut fmt::Formatter<'_>) -> fmt::Result {
         (**self).fmt(f)
     }
 }
 
-/// As in heapless: equal where the elements held are; memory behind them does not count.
+/// As in heapless: equal if the held elements are equal. Memory after them does not count.
 impl<T: PartialEq, LenT: LenType, S: VecStorage<T>> PartialEq for VecInner<T, LenT, S> {
     fn eq(&self, other: &Self) -> bool {
         **self == **other
     }
 }
 
-/// As in heapless: that equality is a whole one where the elements' is.
+/// As in heapless: `Eq` if the elements have it.
 impl<T: Eq, LenT: LenType, S: VecStorage<T>> Eq for VecInner<T, LenT, S> {}

@@ -5,7 +5,7 @@ use mathlib.Core.List.{List}
 use native.Mathlib.Omega.{arith}
 use lib.ListN.{take, drop, length-drop, drop-of-length-le}
 use lib.Seq.{take-all, take-nil}
-use Rattle.basis.proofs.Part.{rest-is}
+use Rattle.basis.proofs.Over.{rest-is}
 use Rattle.byte_slices.proofs.part.Statement.{statement}
 use Rattle.byte_slices.proofs.part.Tie as tie
 

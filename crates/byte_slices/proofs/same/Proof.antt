@@ -31,7 +31,7 @@ loop-again c =
     let a = s .a .now in
     let b = s .b .now in
     let i = l .loop .i in (
-      c .still .ensures ∙ ap (λ (ok : Bool). cond (eqb (getD a i 0) (getD b i 0)) ok false) (l .loop .inv .0)
+      c .still-same .ensures ∙ ap (λ (ok : Bool). cond (eqb (getD a i 0) (getD b i 0)) ok false) (l .loop .inv .0)
           ∙ sym (same-next a b i (omega arith) (omega arith)),
       omega arith,
     )

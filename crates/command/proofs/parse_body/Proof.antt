@@ -1,8 +1,8 @@
 use borrow.Author.Needs.{needs}
 use mathlib.Core.Path.{sym, ap, _∙_}
 use native.Mathlib.Omega.{arith}
-use Rattle.command.specs.Body.{said}
-use Rattle.command.proofs.Parsing.{place, refused, viewed}
+use Rattle.command.specs.Body.{asReply}
+use Rattle.command.proofs.Parsing.{data-start-inside, body-refused, body-accepted}
 use Rattle.command.proofs.parse_body.Statement.{statement}
 use Rattle.command.proofs.parse_body.Tie as tie
 
@@ -10,22 +10,22 @@ returns : tie.Need-returns
 returns c =
     let b = c .before .before .before in
     let a = b .before .before .before .args in
-    refused (a .reading) (a .apdu .now) (a .class) _ (sym (b .parse-lengths .ensures) ∙ ap said (c .before .k .given .1))
+    body-refused (a .reading) (a .apdu .now) (a .class) _ (sym (b .parse-lengths .ensures) ∙ ap asReply (c .before .k .given .1))
 
 returns-2 : tie.Need-returns-2
 returns-2 c =
     let l = c .before .before .before .before .before in
     let b = l .before .before in
     let a = b .before .before .before .args in
-    viewed (a .reading) (a .apdu .now) (a .class) _ (sym (b .parse-lengths .ensures) ∙ ap said (l .lengths .given .1))
+    body-accepted (a .reading) (a .apdu .now) (a .class) _ (sym (b .parse-lengths .ensures) ∙ ap asReply (l .lengths .given .1))
 
 add-t18 : tie.Need-add-t18
 add-t18 c =
     let l = c .before .before .before .before .before in
     let b = l .before .before in
     let s = b .before .before .before in
-    let e = sym (b .parse-lengths .ensures) ∙ ap said (l .lengths .given .1) in
-    omega (arith, s .good, place (s .args .reading) (s .args .apdu .now) (l .lengths .given .0 .0) (s .pre) e)
+    let e = sym (b .parse-lengths .ensures) ∙ ap asReply (l .lengths .given .1) in
+    omega (arith, s .good, data-start-inside (s .args .reading) (s .args .apdu .now) (l .lengths .given .0 .0) (s .pre) e)
 
 pub parse-body-spec : {M : Type 1} → statement M
 parse-body-spec =

@@ -3,7 +3,7 @@ use mathlib.Core.Path.{_≡_, sym, _∙_}
 use native.Mathlib.Omega.{arith}
 use lib.ListN.{length}
 use lib.Seq.{length-take-le}
-use Rattle.basis.proofs.Part.{copied}
+use Rattle.basis.proofs.Over.{copied}
 use Rattle.tlv_write.proofs.put_serialized.Statement.{statement}
 use Rattle.tlv_write.proofs.put_serialized.Tie as tie
 

@@ -1,6 +1,6 @@
 use borrow.Author.Needs.{needs}
 use mathlib.Core.Path.{_∙_}
-use Rattle.basis.proofs.Part.{copied}
+use Rattle.basis.proofs.Over.{copied}
 use Rattle.tlv_write.proofs.put_value.Statement.{statement}
 use Rattle.tlv_write.proofs.put_value.Tie as tie
 

@@ -3,16 +3,16 @@ use native.Mathlib.Omega.{arith}
 use mathlib.Core.Path.{_≡_}
 use lib.ListN.{length, length-append}
 use lib.Seq.{length-take-le}
-use Rattle.tlv_write.specs.Shown.{shown}
-use Rattle.basis.proofs.Part.{lent, next}
+use Rattle.tlv_write.specs.Shown.{serializedBytes}
+use Rattle.basis.proofs.Over.{lent, next}
 use Rattle.tlv_write.proofs.write.Statement.{statement}
 use Rattle.tlv_write.proofs.write.Tie as tie
 
-tag-shown : (s : tie.Start) → length (shown (s .args .tag)) ≡ s .args .tag .len
+tag-shown : (s : tie.Start) → length (serializedBytes (s .args .tag)) ≡ s .args .tag .len
 tag-shown s =
     let h : length (s .args .tag .bytes) ≡ 3 = search needs in length-take-le _ _ (omega arith)
 
-len-shown : (s : tie.Start) → length (shown (s .args .len)) ≡ s .args .len .len
+len-shown : (s : tie.Start) → length (serializedBytes (s .args .len)) ≡ s .args .len .len
 len-shown s =
     let h : length (s .args .len .bytes) ≡ 3 = search needs in length-take-le _ _ (omega arith)
 

@@ -1,14 +1,14 @@
-//! The operations on an AID.
+//! The calls of the operations on an AID.
 
 use gorvisclen::{AID_NUMBERS, NONE};
 use original::aid::{Aid, FromSliceError};
 
 use crate::call::{call, Call};
-use crate::lent::Hex;
-use crate::record::Operation;
+use crate::hex::Hex;
+use crate::recording::Operation;
 
-/// What each number of an AID is.
-const NUMBERS: [&str; AID_NUMBERS] = [
+/// The label of each number of an AID.
+const NUMBER_LABELS: [&str; AID_NUMBERS] = [
     "Aid::as_bytes, its length",
     "Aid::truncated, its length",
     "Aid::category",
@@ -20,9 +20,10 @@ const NUMBERS: [&str; AID_NUMBERS] = [
     "Aid::pix, its length",
 ];
 
-/// Parts of an AID by their number; every number above is the last one.
-const PARTS: [&str; 4] = ["Aid::as_bytes", "Aid::truncated", "Aid::rid", "Aid::pix"];
+/// The labels of the parts of an AID, by the number of the part. Every larger number means the last one.
+const PART_LABELS: [&str; 4] = ["Aid::as_bytes", "Aid::truncated", "Aid::rid", "Aid::pix"];
 
+/// The number of a refusal.
 pub fn refusal(error: FromSliceError) -> u8 {
     match error {
         FromSliceError::Empty => 6,
@@ -33,13 +34,14 @@ pub fn refusal(error: FromSliceError) -> u8 {
     }
 }
 
-pub fn of_part(part: Option<&[u8]>) -> u64 {
+/// The length of a part, or `NONE`.
+pub fn part_len_number(part: Option<&[u8]>) -> u64 {
     part.map_or(NONE, |part| part.len() as u64)
 }
 
-/// Its numbers; the category's is its place in the Rust's own list.
+/// The numbers of an AID. The category is the place of its variant in the Rust's enum.
 #[inline(always)]
-pub fn of_aid(aid: &Aid) -> [u64; AID_NUMBERS] {
+pub fn aid_numbers(aid: &Aid) -> [u64; AID_NUMBERS] {
     [
         aid.as_bytes().len() as u64,
         aid.truncated().len() as u64,
@@ -48,44 +50,45 @@ pub fn of_aid(aid: &Aid) -> [u64; AID_NUMBERS] {
         aid.is_national().into(),
         aid.is_standard().into(),
         aid.is_proprietary().into(),
-        of_part(aid.rid()),
-        of_part(aid.pix()),
+        part_len_number(aid.rid()),
+        part_len_number(aid.pix()),
     ]
 }
 
-/// One AID to make: its name, and its truncated length.
-pub type Case<'a> = (Hex<'a, u8>, usize);
+/// The input that makes an AID: its name, and its truncated length.
+pub type AidInput<'a> = (Hex<'a, u8>, usize);
 
+/// The Rust's AID, or the number of its refusal.
 #[inline(always)]
-pub fn made((name, truncated_len): &Case) -> Result<Aid, u8> {
+pub fn rust_aid((name, truncated_len): &AidInput) -> Result<Aid, u8> {
     Aid::try_new_truncatable(name, *truncated_len).map_err(refusal)
 }
 
-/// The AID.
-pub fn make(case: Case<'_>) -> impl Call<AID_NUMBERS> + '_ {
+/// The AID of a name that may be truncated.
+pub fn try_new_truncatable(input: AidInput<'_>) -> impl Call<AID_NUMBERS> + '_ {
     call(
-        ("Aid::try_new_truncatable", &NUMBERS),
-        case,
+        ("Aid::try_new_truncatable", &NUMBER_LABELS),
+        input,
         |(name, truncated_len), _, out| gorvisclen::aid(name, *truncated_len, out),
-        |case, _| Ok(of_aid(&made(case)?).into()),
+        |input, _| Ok(aid_numbers(&rust_aid(input)?).into()),
     )
     .recorded_as(Operation::Aid)
 }
 
-/// The AID of a name that is not to be truncated.
-pub fn make_whole(name: &[u8]) -> impl Call<AID_NUMBERS> + '_ {
+/// The AID of a name that is not truncated.
+pub fn try_new(name: &[u8]) -> impl Call<AID_NUMBERS> + '_ {
     call(
-        ("Aid::try_new", &NUMBERS),
+        ("Aid::try_new", &NUMBER_LABELS),
         Hex(name),
         |name, _, out| gorvisclen::aid_whole(name, out),
-        |name, _| Ok(of_aid(&Aid::try_new(name).map_err(refusal)?).into()),
+        |name, _| Ok(aid_numbers(&Aid::try_new(name).map_err(refusal)?).into()),
     )
     .recorded_as(Operation::AidWhole)
 }
 
-/// A part of an AID by its number, of which every one above is the last.
+/// A part of the Rust's AID, by its number. Every larger number means the last part.
 #[inline(always)]
-pub fn part_of(aid: &Aid, part: u8) -> Option<&[u8]> {
+pub fn rust_part(aid: &Aid, part: u8) -> Option<&[u8]> {
     match part {
         0 => Some(aid.as_bytes()),
         1 => Some(aid.truncated()),
@@ -94,23 +97,24 @@ pub fn part_of(aid: &Aid, part: u8) -> Option<&[u8]> {
     }
 }
 
-pub fn part(case: Case<'_>, part: u8) -> impl Call<1> + '_ {
+/// A part of an AID, copied.
+pub fn part(input: AidInput<'_>, part: u8) -> impl Call<1> + '_ {
     call(
-        (PARTS[usize::from(part.min(3))], &[]),
-        (case, part),
+        (PART_LABELS[usize::from(part.min(3))], &[]),
+        (input, part),
         |((name, truncated_len), part), to, out| gorvisclen::aid_part(name, *truncated_len, *part, to, out),
-        |(case, part), _| Ok(part_of(&made(case)?, *part).map(|bytes| bytes.to_vec().into()).into()),
+        |(input, part), _| Ok(rust_part(&rust_aid(input)?, *part).map(|bytes| bytes.to_vec().into()).into()),
     )
     .recorded_as(Operation::AidPart)
 }
 
 /// Whether an AID is selected by a name.
-pub fn matches<'a>(case: Case<'a>, asked: &'a [u8]) -> impl Call<1> + 'a {
+pub fn matches<'a>(input: AidInput<'a>, selected: &'a [u8]) -> impl Call<1> + 'a {
     call(
         ("Aid::matches", &[]),
-        (case, Hex(asked)),
-        |((name, truncated_len), asked), _, out| gorvisclen::aid_matches(name, *truncated_len, asked, out),
-        |(case, asked), _| Ok([made(case)?.matches(asked).into()].into()),
+        (input, Hex(selected)),
+        |((name, truncated_len), selected), _, out| gorvisclen::aid_matches(name, *truncated_len, selected, out),
+        |(input, selected), _| Ok([rust_aid(input)?.matches(selected).into()].into()),
     )
     .recorded_as(Operation::AidMatches)
 }

@@ -1,31 +1,32 @@
-//! Commands built, as document 01 has them ("Building and cutting"). The Rust lets nobody build one that is short only with more
-//! than 255 data bytes or with Max: this stands for it there. Everywhere it is held to the Rust's own code.
+//! A model of commands to build, from document 01 ("Building and cutting"). The Rust lets no caller build one that is
+//! short only and has more than 255 data bytes or Max: there this model is the reference. Everywhere else it must agree
+//! with the Rust.
 
 use gorvisclen::{EXPECTED_MAX, EXTENDED_SUPPORTED, SHORT_ONLY};
 
-use super::asked::Asked;
+use super::input::BuilderInput;
 
-impl Asked<'_> {
-    /// The expected length that is shown: Max is 65,536, and short only lowers it to at most 256.
-    pub fn shown(&self) -> u32 {
+impl BuilderInput<'_> {
+    /// The expected length in the bytes of the command: Max is 65,536, and short only lowers it to at most 256.
+    pub fn written_expected_len(&self) -> u32 {
         self.le.min(if self.mode == SHORT_ONLY { 256 } else { EXPECTED_MAX })
     }
 
-    /// The expected length that is compared with that of a command read: not lowered, and Max as 65,535.
-    pub fn compared(&self) -> u32 {
+    /// The expected length for equality with a command that is read: not lowered, and Max is 65,535.
+    pub fn compared_expected_len(&self) -> u32 {
         self.le.min(65_535)
     }
 
     /// The fields Lc and Le.
-    pub fn fields(&self) -> [Vec<u8>; 2] {
-        let (n, le, forced) = (self.data.len(), self.shown(), self.mode > EXTENDED_SUPPORTED);
+    pub fn length_fields(&self) -> [Vec<u8>; 2] {
+        let (n, le, forced) = (self.data.len(), self.written_expected_len(), self.mode > EXTENDED_SUPPORTED);
         let [.., high, low] = n.to_be_bytes();
         let lc = match n {
             0 => vec![],
             1..=255 if le <= 256 && !forced => vec![low],
             _ => vec![0, high, low],
         };
-        // Of 256 in one byte, and of Max, zeros are left.
+        // 256 in one byte, and Max, become zeros.
         let [.., high, low] = le.to_be_bytes();
         let le = match (lc.len(), le) {
             (_, 0) => vec![],
@@ -39,12 +40,12 @@ impl Asked<'_> {
 
     /// The length of the command.
     pub fn required_len(&self) -> usize {
-        4 + self.data.len() + self.fields().iter().map(Vec::len).sum::<usize>()
+        4 + self.data.len() + self.length_fields().iter().map(Vec::len).sum::<usize>()
     }
 
     /// The bytes of the command.
     pub fn bytes(&self) -> Vec<u8> {
-        let [lc, le] = self.fields();
+        let [lc, le] = self.length_fields();
         [&self.header, &lc[..], self.data, &le].concat()
     }
 }

@@ -1,19 +1,19 @@
-//! The lookup of a path, by place and by content.
+//! The calls that look up a path: the place of the value, and its bytes.
 
 use std::ops::Range;
 
 use gorvisclen::{CRATE_READING, LOOKUP_NUMBERS};
 use original::tlv::{get_data_object, Tag};
 
-use super::front::{place_of, same};
+use super::labels::{OperationLabels, LOOKUP, VALUE};
 use super::model;
-use super::names::{Names, LOOKUP, VALUE};
-use crate::call::{call, Call, Given};
-use crate::lent::Hex;
-use crate::record::{Handed, Operation};
-use crate::tally::{self, Tally};
+use super::take::{check_model, place_of};
+use crate::call::{call, Call, Input};
+use crate::hex::Hex;
+use crate::recording::{Arguments, Operation};
+use crate::tally::{Labels, Tally};
 
-/// One lookup.
+/// A lookup: the reading, the record and the path.
 #[derive(Clone, Copy, Debug)]
 pub struct Lookup<'a> {
     reading: u8,
@@ -21,8 +21,8 @@ pub struct Lookup<'a> {
     path: Hex<'a, u32>,
 }
 
-/// The Rust's tag of a number; none where it is above all of them. Each way to make it has to give the same.
-pub fn tag(number: &u32) -> Option<Tag> {
+/// The Rust's tag with a number; none if the number is too large. All ways to make it must agree.
+pub fn rust_tag(number: &u32) -> Option<Tag> {
     let [0, b1, b2, b3] = number.to_be_bytes() else { return None };
     let tag = Tag::from([b1, b2, b3]);
     let two = u16::from_be_bytes([b2, b3]);
@@ -31,79 +31,79 @@ pub fn tag(number: &u32) -> Option<Tag> {
         [0, _] => [Tag::from(two), Tag::from([b2, b3]), Tag::from_u16(two)] == [tag; 3],
         _ => Tag::from_3([b1, b2, b3]) == tag,
     };
-    assert!(same, "the Rust's tags part: {number:X}");
+    assert!(same, "the Rust's tags differ: {number:X}");
     Some(tag)
 }
 
-impl Given for Lookup<'_> {
-    fn hand<'a>(&'a self, to: &mut Handed<'a>) {
-        self.reading.hand(to);
-        self.record.hand(to);
-        self.path.iter().for_each(|&number| to.number(number as usize));
+impl Input for Lookup<'_> {
+    fn add_to<'a>(&'a self, arguments: &mut Arguments<'a>) {
+        self.reading.add_to(arguments);
+        self.record.add_to(arguments);
+        self.path.iter().for_each(|&number| arguments.number(number as usize));
     }
 
     /// The record and the path.
-    fn read(&self) -> Vec<u8> {
+    fn lent_bytes(&self) -> Vec<u8> {
         let path = self.path.iter().flat_map(|number| number.to_be_bytes());
         self.record.iter().copied().chain(path).collect()
     }
 }
 
 impl<'a> Lookup<'a> {
-    pub fn of(reading: u8, record: &'a [u8], path: &'a [u32]) -> Self {
+    pub fn new(reading: u8, record: &'a [u8], path: &'a [u32]) -> Self {
         let (record, path) = (Hex(record), Hex(path));
         Lookup { reading, record, path }
     }
 
-    /// What has to be found: in the crate's reading what the Rust finds, and else by the model.
+    /// Where the value must be found, by the model. In the crate's reading it must agree with the Rust.
     pub fn found(&self) -> Result<Range<usize>, u8> {
         let found = model::lookup(self.reading, &self.record, &self.path);
-        let tags: Option<Vec<Tag>> = self.path.iter().map(tag).collect();
+        let tags: Option<Vec<Tag>> = self.path.iter().map(rust_tag).collect();
         if let (CRATE_READING, Some(tags)) = (self.reading, tags) {
             let rust = get_data_object(&tags, &self.record);
             let rust = rust.map(|part| place_of(part, &self.record));
-            same(rust, found.clone().ok(), || self);
+            check_model(rust, found.clone().ok(), || self);
         }
         found
     }
 
-    /// The length of the value found; 0 where there is none.
+    /// The length of the value; 0 if none is found.
     pub fn len(&self) -> usize {
         self.found().map_or(0, |part| part.len())
     }
 
     /// Whether the path has a number that no tag of the Rust can hold.
-    fn above(&self) -> bool {
+    fn has_too_large_number(&self) -> bool {
         self.path.iter().any(|&number| number > 0xFF_FFFF)
     }
 
-    /// An operation where it is the Rust's.
-    fn of_rust(&self, operation: Operation) -> Option<Operation> {
-        (self.reading == CRATE_READING && !self.above()).then_some(operation)
+    /// The operation, if the Rust has it.
+    fn if_recorded(&self, operation: Operation) -> Option<Operation> {
+        (self.reading == CRATE_READING && !self.has_too_large_number()).then_some(operation)
     }
 
-    /// What it counts for.
-    fn names(&self, names: &Names, accepted: bool) -> tally::Names {
+    /// The labels that it is counted under.
+    fn labels(&self, labels: &OperationLabels, accepted: bool) -> Labels {
         match self.reading {
-            CRATE_READING if self.above() => (names.above, &[]),
-            reading => names.of(reading, accepted),
+            CRATE_READING if self.has_too_large_number() => (labels.too_large_number, &[]),
+            reading => labels.labels(reading, accepted),
         }
     }
 
-    /// Holds both to a place and bytes that are written down, or a refusal, under a name of its own, and compares them.
-    pub fn written(self, tally: &mut Tally, operation: &'static str, answer: Result<(usize, &[u8]), u8>) {
+    /// Compares both calls with a place and bytes, or a refusal, from a table, under a label of its own.
+    pub fn compare_with_table(self, tally: &mut Tally, label: &'static str, answer: Result<(usize, &[u8]), u8>) {
         let part = answer.map(|(place, value)| [place as u64, value.len() as u64].into());
-        find(self).written(tally, operation, &part, 0);
+        find(self).compare_with_table(tally, label, &part, 0);
         let bytes = answer.map(|(_, bytes)| Some(bytes.into()).into());
         let to_len = answer.map_or(2, |(_, value)| value.len() + 2);
-        value(self).written(tally, operation, &bytes, to_len);
+        value(self).compare_with_table(tally, label, &bytes, to_len);
     }
 }
 
 /// The place of a value and its length.
 pub fn find(lookup: Lookup<'_>) -> impl Call<LOOKUP_NUMBERS> + '_ {
     call(
-        (LOOKUP.some, &[]),
+        (LOOKUP.read, &[]),
         lookup,
         |lookup, _, out| gorvisclen::get_data_object(lookup.reading, &lookup.record, &lookup.path, out),
         |lookup, _| {
@@ -111,17 +111,17 @@ pub fn find(lookup: Lookup<'_>) -> impl Call<LOOKUP_NUMBERS> + '_ {
             Ok([part.start as u64, part.len() as u64].into())
         },
     )
-    .counted(|lookup, _, answer| Some(lookup.names(&LOOKUP, answer.is_ok())))
-    .recorded_as(lookup.of_rust(Operation::GetDataObject))
+    .labelled_by(|lookup, _, answer| Some(lookup.labels(&LOOKUP, answer.is_ok())))
+    .recorded_as(lookup.if_recorded(Operation::GetDataObject))
 }
 
-/// Its bytes.
+/// The bytes of a value.
 pub fn value(lookup: Lookup<'_>) -> impl Call<1> + '_ {
     call(
-        lookup.names(&VALUE, true),
+        lookup.labels(&VALUE, true),
         lookup,
         |lookup, to, out| gorvisclen::value(lookup.reading, &lookup.record, &lookup.path, to, out),
         |lookup, _| Ok(Some(lookup.record[lookup.found()?].into()).into()),
     )
-    .recorded_as(lookup.of_rust(Operation::Value))
+    .recorded_as(lookup.if_recorded(Operation::Value))
 }

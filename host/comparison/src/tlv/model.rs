@@ -1,6 +1,6 @@
-//! BER records as document 01 has them, in both readings. The Rust says only that it reads no object: this says whether that
-//! is 11 or 12. It stands for the standard reading, which the Rust does not have, and which document 01 takes from EMV Book 3
-//! Annex B; and for numbers in a path that no tag of the Rust can hold.
+//! A model of BER records in both readings, from document 01. If the Rust returns `None`, the model says whether that
+//! is 11 or 12. It is the reference for the standard reading, which the Rust does not have, and which document 01 takes
+//! from EMV Book 3 Annex B; and for numbers in a path that no tag of the Rust can hold.
 
 use std::ops::Range;
 
@@ -9,7 +9,7 @@ use gorvisclen::CRATE_READING;
 /// The end at an object boundary.
 const END: u8 = 11;
 
-/// An object that starts here but cannot be read.
+/// An object starts here, but cannot be read.
 const UNREADABLE: u8 = 12;
 
 /// Bytes as one big-endian number.
@@ -17,7 +17,7 @@ pub fn number(bytes: &[u8]) -> u64 {
     bytes.iter().fold(0, |n, &byte| n * 256 + u64::from(byte))
 }
 
-/// How many bytes the tag has, by the rows of document 01, "BER records"; the first that fits counts.
+/// How many bytes the tag has: the rows of document 01, "BER records". The first row that fits counts.
 fn tag_len(reading: u8, bytes: &[u8]) -> Result<usize, u8> {
     let low_five = bytes.first().map(|b1| b1 % 32);
     match (reading, bytes) {
@@ -41,7 +41,7 @@ pub fn tag(reading: u8, bytes: &[u8]) -> Result<[u64; 2], u8> {
     Ok([number(&bytes[..len]), len as u64])
 }
 
-/// A length, and how many bytes it takes: the same in both readings.
+/// A length, and how many bytes it takes. Both readings read it the same way.
 pub fn len(bytes: &[u8]) -> Result<[u64; 2], u8> {
     match *bytes {
         [l @ 0x00..=0x7F, ..] => Ok([l.into(), 1]),
@@ -62,16 +62,16 @@ pub fn object(reading: u8, bytes: &[u8]) -> Result<[u64; 3], u8> {
     Ok([tag, place, len])
 }
 
-/// The part of a record that a path leads to: at each level the value of the first object with the tag.
+/// The part of a record at a path: at each level the value of the first object with the tag.
 pub fn lookup(reading: u8, record: &[u8], path: &[u32]) -> Result<Range<usize>, u8> {
     let mut part = 0..record.len();
-    for &asked in path {
+    for &wanted in path {
         let mut at = part.start;
         part = loop {
             let [tag, place, len] = object(reading, &record[at..part.end])?;
             let start = at + place as usize;
             at = start + len as usize;
-            if tag == asked.into() {
+            if tag == wanted.into() {
                 break start..at;
             }
         };

@@ -1,15 +1,15 @@
-//! Records of nested objects to look into, and paths to look for.
+//! Random records of nested objects, and paths to look up in them.
 
-use crate::inputs::Inputs;
+use crate::random::Random;
 
-/// Tags that both readings take, of one, two and three bytes, and those next to what is refused.
+/// Tags that both readings read, of one, two and three bytes. Some are next to tags that are refused.
 const TAGS: [u32; 24] = [
     0x00, 0x5A, 0xC1, 0x24, 0x70, 0x6F, 0xE1, 0x5F24, 0x5F25, 0x5F1F, 0x5F7F, 0x1F20, 0x9F36, 0x7F21, 0xBF2C, 0xFF1F,
     0xDF8101, 0x7F8100, 0x1FFE7F, 0x5F9024, 0xFF817F, 0x3FC01F, 0xDFA45F, 0x9F8124,
 ];
 
-/// Tags that one reading takes, or neither; the readings part on their bytes.
-const PARTING: [u32; 12] =
+/// Tags that one reading reads, or neither.
+const DIFFERING: [u32; 12] =
     [0x5F1E, 0xFFFF, 0x1FFF, 0x5FFF24, 0xFF8180, 0xDFFEFF, 0x5F80, 0x5F1D, 0x1F00, 0x7F8181, 0x9F90FE, 0xFF8001];
 
 /// Numbers that are no tag in either reading.
@@ -18,29 +18,29 @@ const NO_TAGS: [u32; 14] = [
     0xFFFFFFFF,
 ];
 
-/// Bytes, and the paths to the objects that they were made of. In damaged bytes these lead anywhere.
+/// The bytes of a record, and the paths to its objects.
 #[derive(Clone, Default)]
 pub struct Record {
     pub bytes: Vec<u8>,
     pub paths: Vec<Vec<u32>>,
 }
 
-/// The bytes of a tag: its number without the zero bytes in front, save the last.
-pub fn bytes_of(tag: u32) -> Vec<u8> {
+/// The bytes of a tag: its number without leading zero bytes, but at least one byte.
+pub fn tag_bytes(tag: u32) -> Vec<u8> {
     let bytes = tag.to_be_bytes();
     let zeros = bytes[..3].iter().take_while(|&&byte| byte == 0).count();
     bytes[zeros..].to_vec()
 }
 
-fn some_tag(inputs: &mut Inputs) -> u32 {
-    match inputs.below(24) {
-        0 => inputs.one_of(&PARTING),
-        1..=8 => TAGS[7 + inputs.below(2)],
-        _ => inputs.one_of(&TAGS),
+fn random_tag(random: &mut Random) -> u32 {
+    match random.below(24) {
+        0 => random.one_of(&DIFFERING),
+        1..=8 => TAGS[7 + random.below(2)],
+        _ => random.one_of(&TAGS),
     }
 }
 
-/// The ways in which a length can be written, the shortest first. `n` is at most 65,535.
+/// The forms in which a length can be written, the shortest first. `n` is at most 65,535.
 pub fn length_forms(n: usize) -> Vec<Vec<u8>> {
     let [.., high, low] = n.to_be_bytes();
     let forms = [(0x7F, vec![low]), (0xFF, vec![0x81, low])];
@@ -48,115 +48,116 @@ pub fn length_forms(n: usize) -> Vec<Vec<u8>> {
     fits.map(|(_, form)| form).chain([vec![0x82, high, low]]).collect()
 }
 
-/// A value that is no template: often none, often one that looks like objects.
-fn some_value(inputs: &mut Inputs) -> Vec<u8> {
-    let n = match inputs.below(8) {
+/// A random value without objects: often empty, often with bytes that look like objects.
+fn random_value(random: &mut Random) -> Vec<u8> {
+    let n = match random.below(8) {
         0 | 1 => 0,
-        2 | 3 => return [&bytes_of(some_tag(inputs))[..], &[0x03, 0x26, 0x10, 0x09]].concat(),
-        4 => inputs.one_of(&[126, 127, 128, 129, 255, 256, 257]),
-        5 => return vec![0; inputs.below(6)],
-        _ => inputs.below(12),
+        2 | 3 => return [&tag_bytes(random_tag(random))[..], &[0x03, 0x26, 0x10, 0x09]].concat(),
+        4 => random.one_of(&[126, 127, 128, 129, 255, 256, 257]),
+        5 => return vec![0; random.below(6)],
+        _ => random.below(12),
     };
-    inputs.bytes(n)
+    random.bytes(n)
 }
 
 impl Record {
-    /// Adds an object, its length in the shortest form or in another. A value too long for two bytes of length is cut.
-    fn add(&mut self, inputs: &mut Inputs, tag: u32, mut value: Record) {
+    /// Adds an object. Its length is in the shortest form or in another one. A value that is too long is cut to 65,535
+    /// bytes.
+    fn add(&mut self, random: &mut Random, tag: u32, mut value: Record) {
         value.bytes.truncate(65_535);
         let forms = length_forms(value.bytes.len());
-        let form = if inputs.below(2) == 0 { 0 } else { inputs.below(forms.len()) };
-        self.bytes.extend([&bytes_of(tag), &forms[form], &value.bytes[..]].concat());
+        let form = if random.below(2) == 0 { 0 } else { random.below(forms.len()) };
+        self.bytes.extend([&tag_bytes(tag), &forms[form], &value.bytes[..]].concat());
         self.paths.push(vec![tag]);
         let inner = value.paths.into_iter();
         self.paths.extend(inner.map(|path| [&[tag], &path[..]].concat()));
     }
 }
 
-/// A record in which the deepest path has `depth` tags; of depth 0, one without an object.
-pub fn some_record(inputs: &mut Inputs, depth: usize) -> Record {
+/// A random record in which the deepest path has `depth` tags. With depth 0 it has no objects.
+pub fn random_record(random: &mut Random, depth: usize) -> Record {
     if depth == 0 {
-        let bytes = some_value(inputs);
+        let bytes = random_value(random);
         return Record { bytes, ..Record::default() };
     }
     let mut record = Record::default();
-    let objects = 1 + inputs.below(4);
-    let deepest = inputs.below(objects);
+    let objects = 1 + random.below(4);
+    let deepest = random.below(objects);
     for i in 0..objects {
-        let deeper = if i == deepest { depth - 1 } else { inputs.below(depth) };
-        let value = some_record(inputs, deeper);
-        let tag = some_tag(inputs);
-        record.add(inputs, tag, value);
-        if inputs.below(16) == 0 {
-            record.bytes.extend(vec![0; 1 + inputs.below(4)]);
+        let deeper = if i == deepest { depth - 1 } else { random.below(depth) };
+        let value = random_record(random, deeper);
+        let tag = random_tag(random);
+        record.add(random, tag, value);
+        if random.below(16) == 0 {
+            record.bytes.extend(vec![0; 1 + random.below(4)]);
         }
     }
     record
 }
 
-/// Small objects of many tags, none of them the last of those below, up to a few bytes more than `len`.
-fn small_objects(inputs: &mut Inputs, len: usize) -> Record {
+/// Small objects with random tags, but never the last of `TAGS`, up to a few bytes more than `len`.
+fn small_objects(random: &mut Random, len: usize) -> Record {
     let mut record = Record::default();
     while record.bytes.len() < len {
-        let tag = inputs.one_of(&TAGS[..TAGS.len() - 1]);
-        let n = inputs.below(6);
-        let bytes = inputs.bytes(n);
-        record.add(inputs, tag, Record { bytes, ..Record::default() });
+        let tag = random.one_of(&TAGS[..TAGS.len() - 1]);
+        let n = random.below(6);
+        let bytes = random.bytes(n);
+        record.add(random, tag, Record { bytes, ..Record::default() });
     }
     record
 }
 
-/// A long record of small objects, the last one with a tag of its own; in it a template of the same kind, of `inner` bytes and
-/// a few more. Its paths lead to that last object, at the top and in the template.
-pub fn long_record(inputs: &mut Inputs, outer: usize, inner: usize) -> Record {
+/// A long record of small objects, then a template, then one last object. In the template are small objects of `inner`
+/// bytes or a few more, and the last object too. The paths lead to the last object of the record and of the template.
+pub fn long_record(random: &mut Random, outer: usize, inner: usize) -> Record {
     let (last, template) = (TAGS[TAGS.len() - 1], 0x7F4E);
     let end = Record { bytes: vec![0x26, 0x10, 0x09], ..Record::default() };
-    let mut inside = small_objects(inputs, inner);
-    inside.add(inputs, last, end.clone());
-    let mut record = small_objects(inputs, outer);
-    record.add(inputs, template, inside);
-    record.add(inputs, last, end);
+    let mut inside = small_objects(random, inner);
+    inside.add(random, last, end.clone());
+    let mut record = small_objects(random, outer);
+    record.add(random, template, inside);
+    record.add(random, last, end);
     record.paths = vec![vec![last], vec![template, last]];
     record
 }
 
-/// A number that a path may ask for: a tag, one that the readings part on, or none at all.
-fn some_number(inputs: &mut Inputs) -> u32 {
-    match inputs.below(4) {
-        0 => inputs.one_of(&NO_TAGS),
-        1 => inputs.one_of(&PARTING),
-        _ => some_tag(inputs),
+/// A random number for a path: a tag, a tag that not both readings read, or no tag at all.
+fn random_number(random: &mut Random) -> u32 {
+    match random.below(4) {
+        0 => random.one_of(&NO_TAGS),
+        1 => random.one_of(&DIFFERING),
+        _ => random_tag(random),
     }
 }
 
-/// A number next to a tag's: with bytes cut off or added in front or behind, or one bit changed.
-fn near(inputs: &mut Inputs, tag: u32) -> u32 {
-    match inputs.below(7) {
+/// A number that is similar to a tag: with bytes removed or added at the front or at the end, or with one bit changed.
+fn similar_number(random: &mut Random, tag: u32) -> u32 {
+    match random.below(7) {
         0 => tag & 0xFF,
         1 => tag & 0xFFFF,
         2 => tag >> 8,
         3 => tag << 8,
         4 => tag | 0x0100_0000,
         5 => tag | (tag << 16),
-        _ => tag ^ (1 << inputs.below(32)),
+        _ => tag ^ (1 << random.below(32)),
     }
 }
 
-/// Paths to look for in a record, of at most 6 tags: none, some that were put in, and some next to those.
-pub fn some_paths(inputs: &mut Inputs, record: &Record) -> Vec<Vec<u32>> {
-    let some = |inputs: &mut Inputs| match record.paths.len() {
-        0 => vec![some_number(inputs)],
-        n => record.paths[inputs.below(n)].clone(),
+/// Paths to look up in a record, of at most 6 tags: the empty path, paths to its objects, and similar ones.
+pub fn random_paths(random: &mut Random, record: &Record) -> Vec<Vec<u32>> {
+    let existing = |random: &mut Random| match record.paths.len() {
+        0 => vec![random_number(random)],
+        n => record.paths[random.below(n)].clone(),
     };
-    let mut paths = vec![Vec::new(), some(inputs), some(inputs)];
+    let mut paths = vec![Vec::new(), existing(random), existing(random)];
     for _ in 0..4 {
-        let mut path = some(inputs);
-        let at = inputs.below(path.len());
-        match inputs.below(5) {
-            0 => path[at] = some_number(inputs),
-            1 => path[at] = near(inputs, path[at]),
-            2 => path.insert(at, some_number(inputs)),
-            3 => path.push(some_number(inputs)),
+        let mut path = existing(random);
+        let at = random.below(path.len());
+        match random.below(5) {
+            0 => path[at] = random_number(random),
+            1 => path[at] = similar_number(random, path[at]),
+            2 => path.insert(at, random_number(random)),
+            3 => path.push(random_number(random)),
             _ => {
                 path.remove(at);
             }

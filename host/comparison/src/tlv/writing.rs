@@ -1,33 +1,34 @@
-//! Objects written into buffers.
+//! Objects that are written into buffers.
 
 use gorvisclen::STANDARD_READING;
 use original::command::{BufferFull, DataSource, DataStream};
 use original::tlv::{Tag, Tlv};
 use original::Data;
 
-use super::front::{self, Front};
 use super::lookup::Lookup;
-use super::records::{bytes_of, length_forms};
-use crate::answer::Left;
+use super::records::{length_forms, tag_bytes};
+use super::take::{self, Take};
+use crate::answer::Writes;
 use crate::call::{call, Call};
-use crate::inputs::Inputs;
-use crate::lent::{places_past, Hex};
+use crate::hex::Hex;
+use crate::lent::places_past;
 use crate::loops::{pairs, triples};
-use crate::record::Operation;
+use crate::random::Random;
+use crate::recording::Operation;
 use crate::tally::Tally;
 
 const WRITE: &str = "Tlv::to_writer";
 const TOO_LONG: &str = "Tlv::to_writer, above 65,535 bytes (the Rust's fails, its tag already out)";
-const PAST: &str = "Tlv::to_writer, a place past the buffer's end (no Rust: held to a rule, 16)";
-const READ_BACK: &str = "Tlv::to_writer, then the standard reading (held to a rule: tag and value come back)";
+const PAST: &str = "Tlv::to_writer, a place past the buffer's end (no Rust: checked against a rule, 16)";
+const READ_BACK: &str = "Tlv::to_writer, then the standard reading (checked against a rule: tag and value come back)";
 
-/// Tags of each size, with zero bytes in front, inside and behind; some that no reading takes.
+/// Tags of each size, with zero bytes at the front, inside and at the end. Some are read in no reading.
 const TAGS: [u32; 22] = [
     0x00, 0x01, 0x5A, 0x1F, 0xFF, 0x5F24, 0x5F00, 0x1F00, 0x0100, 0xFFFF, 0x5F1E, 0x5F80, 0x5F2400, 0x5F0024, 0x5F0000,
     0x010000, 0x7F8100, 0xDF8101, 0x1FFF7F, 0x1F0001, 0x808080, 0xFFFFFF,
 ];
 
-/// One object to write: the three bytes of its tag, with zero bytes in front, and its value.
+/// An object to write: its tag in three bytes, with leading zero bytes, and its value.
 pub type Object<'a> = ([u8; 3], Hex<'a, u8>);
 
 pub fn object(tag: u32, value: &[u8]) -> Object<'_> {
@@ -35,21 +36,22 @@ pub fn object(tag: u32, value: &[u8]) -> Object<'_> {
     (tag, Hex(value))
 }
 
-pub fn rust((tag, value): Object<'_>) -> Tlv<&[u8]> {
+/// The Rust's object.
+pub fn rust_object((tag, value): Object<'_>) -> Tlv<&[u8]> {
     Tlv::new(Tag::from(tag), value.0)
 }
 
-/// Whether the Rust cannot write a value so long. It has then written the tag, here to a room for no more than that.
+/// Whether the value is too long for the Rust. Then the Rust has written the tag; the room here has no space for more.
 fn too_long(object: Object) -> bool {
     let mut room = Data::<3>::new();
-    let written = rust(object).to_writer(&mut room);
+    let written = rust_object(object).to_writer(&mut room);
     let failed = matches!(written, Err(BufferFull::Serialization(_)));
     assert!(!failed || *room == *Tag::from(object.0).serialize());
     failed
 }
 
-/// An object written into a buffer from a place. The Rust writes to as much as there is behind the place.
-pub fn put(object: Object<'_>, at: usize) -> impl Call<1> + '_ {
+/// An object that is written into a buffer from a place. The Rust writes to the part of the buffer from this place on.
+pub fn put_data_object(object: Object<'_>, at: usize) -> impl Call<1> + '_ {
     call(
         (WRITE, &[]),
         (object, at),
@@ -60,89 +62,90 @@ pub fn put(object: Object<'_>, at: usize) -> impl Call<1> + '_ {
             }
             let mut written = vec![0; to_len.checked_sub(at).ok_or(16)?];
             let mut rest = &mut written[..];
-            rust(object).to_writer(&mut rest).map_err(|_| 16)?;
+            rust_object(object).to_writer(&mut rest).map_err(|_| 16)?;
             let n = to_len - at - rest.len();
-            assert_eq!(n, DataSource::len(&rust(object)));
-            assert!(!rust(object).is_empty());
+            assert_eq!(n, DataSource::len(&rust_object(object)));
+            assert!(!rust_object(object).is_empty());
             written.truncate(n);
-            Ok(Left::written([n as u64], at, written))
+            Ok(Writes::new([n as u64], at, written))
         },
     )
-    .counted(|((_, value), at), to_len, _| match value.len() {
+    .labelled_by(|((_, value), at), to_len, _| match value.len() {
         65_536.. => Some((TOO_LONG, &[])),
         _ => (*at > to_len).then_some((PAST, &[])),
     })
     .recorded_as(Operation::PutDataObject)
 }
 
-/// Compares the writing to buffers that an object fits exactly from a place, that are a byte short and a byte longer;
-/// and from places around the end.
+/// Buffers that an object fits exactly from a place, that are a byte too short and a byte longer; and places around the
+/// end.
 fn around_the_end(tally: &mut Tally, object: Object, before: usize) {
-    let need = DataSource::len(&rust(object));
+    let need = DataSource::len(&rust_object(object));
     let exact = before + need;
     for (buffer_len, (at, len)) in pairs([exact, exact - 1, exact + 1], [(before, 1), (before + 1, 2), (before, 0)]) {
-        put(object, at).compare(tally, buffer_len, len);
+        put_data_object(object, at).compare(tally, buffer_len, len);
     }
     for at in places_past(before, need) {
-        put(object, at).compare(tally, exact, 1);
+        put_data_object(object, at).compare(tally, exact, 1);
     }
 }
 
-/// Small buffers: every place from the beginning to past the end, `out` of every length to 2.
-fn every_place(tally: &mut Tally, inputs: &mut Inputs) {
+/// Small buffers: every place from the beginning to past the end, `out` of every length up to 2.
+fn every_place(tally: &mut Tally, random: &mut Random) {
     for (tag, n) in pairs(TAGS, [0, 1, 2, 5]) {
-        let value = &inputs.bytes(n);
+        let value = &random.bytes(n);
         for buffer_len in 0..=12 {
             for (at, len) in pairs((0..=buffer_len + 3).chain([usize::MAX - 1, usize::MAX]), 0..=2) {
-                put(object(tag, value), at).compare(tally, buffer_len, len);
+                put_data_object(object(tag, value), at).compare(tally, buffer_len, len);
             }
         }
     }
 }
 
-/// Values of the lengths around each boundary.
-pub fn every_boundary(tally: &mut Tally, inputs: &mut Inputs) {
-    let row = &inputs.bytes(131_100);
+/// Values with lengths around each boundary.
+pub fn every_boundary(tally: &mut Tally, random: &mut Random) {
+    let string = &random.bytes(131_100);
     let short = [0, 1, 2, 126, 127, 128, 129, 254, 255, 256, 257, 511, 512];
     let long = [65_534, 65_535, 65_536, 65_537, 65_541, 65_791, 131_072];
     for (tag, n, before) in triples(TAGS, short, [0, 1, 7]) {
-        around_the_end(tally, object(tag, &row[..n]), before);
+        around_the_end(tally, object(tag, &string[..n]), before);
     }
     for (tag, n) in pairs([TAGS[2], TAGS[5], TAGS[16]], long) {
-        let object = object(tag, &row[..n]);
-        around_the_end(tally, object, inputs.below(3));
+        let object = object(tag, &string[..n]);
+        around_the_end(tally, object, random.below(3));
         around_the_end(tally, object, 66_000);
         // 19 comes before 16.
         for (buffer_len, at) in [(0, 0), (0, 1), (4, 0), (n, 0), (n, n + 1)] {
-            put(object, at).compare(tally, buffer_len, inputs.below(3));
+            put_data_object(object, at).compare(tally, buffer_len, random.below(3));
         }
     }
 }
 
-/// The boundaries with every place from the beginning to past the end. The longest have one buffer, a little longer than needed.
-fn every_place_at_a_boundary(tally: &mut Tally, inputs: &mut Inputs) {
-    let row = &inputs.bytes(65_536);
+/// The boundaries with every place from the beginning to past the end. The longest values have only one buffer, a
+/// little longer than needed.
+fn every_place_at_a_boundary(tally: &mut Tally, random: &mut Random) {
+    let string = &random.bytes(65_536);
     for n in [0, 127, 128, 255, 256, 65_535, 65_536] {
-        let object = object(TAGS[5], &row[..n]);
-        let need = DataSource::len(&rust(object));
+        let object = object(TAGS[5], &string[..n]);
+        let need = DataSource::len(&rust_object(object));
         for buffer_len in [need + 3, need, need - 1].into_iter().take(if n > 256 { 1 } else { 3 }) {
             for at in 0..=buffer_len + 3 {
-                put(object, at).compare(tally, buffer_len, 1);
+                put_data_object(object, at).compare(tally, buffer_len, 1);
             }
         }
     }
 }
 
-/// Every first and second byte of a tag.
-fn every_tag(tally: &mut Tally, inputs: &mut Inputs) {
+/// Every first and second byte of a tag of three bytes.
+fn every_tag(tally: &mut Tally, random: &mut Random) {
     for (front, last) in pairs(0..=0xFFFF, [0x00, 0x01, 0x1F, 0x80, 0xFF]) {
-        let n = inputs.below(3);
-        let value = &inputs.bytes(n);
-        put(object((front << 8) + last, value), inputs.below(4)).compare(tally, 8, 1);
+        let n = random.below(3);
+        let value = &random.bytes(n);
+        put_data_object(object((front << 8) + last, value), random.below(4)).compare(tally, 8, 1);
     }
 }
 
-/// Every tag that the standard reading takes with a first byte.
+/// Every tag with this first byte that the standard reading reads.
 fn accepted(b1: u32) -> Vec<u32> {
     if b1 % 32 != 31 {
         return vec![b1];
@@ -152,45 +155,46 @@ fn accepted(b1: u32) -> Vec<u32> {
     two.chain(three).collect()
 }
 
-/// One of them, written and then read in the standard reading, comes back with its value.
-fn read_back(tally: &mut Tally, inputs: &mut Inputs, tag: u32) {
-    let n = match inputs.below(64) {
-        0 => inputs.one_of(&[127, 128, 255, 256]),
-        _ => inputs.below(4),
+/// A tag that is written, then read in the standard reading, comes back with its value.
+fn read_back(tally: &mut Tally, random: &mut Random, tag: u32) {
+    let n = match random.below(64) {
+        0 => random.one_of(&[127, 128, 255, 256]),
+        _ => random.below(4),
     };
-    let (value, at) = (&inputs.bytes(n)[..], inputs.below(3));
+    let (value, at) = (&random.bytes(n)[..], random.below(3));
     let mut buffer = vec![0xEE; at + n + 6];
-    // A refusal leaves nothing to read, which is then seen.
+    // After a refusal there is nothing to read, and the comparison fails.
     let _ = gorvisclen::put_data_object(object(tag, value).0, value, &mut buffer, at, &mut [0]);
 
     let record = &buffer[at..];
-    let place = bytes_of(tag).len() + length_forms(n)[0].len();
+    let place = tag_bytes(tag).len() + length_forms(n)[0].len();
     let answer = [tag.into(), place as u64, n as u64];
-    front::Object::of(STANDARD_READING, record).written(tally, READ_BACK, &Ok(answer.into()), 0);
-    Lookup::of(STANDARD_READING, record, &[tag]).written(tally, READ_BACK, Ok((place, value)));
+    take::Object::call(STANDARD_READING, record).compare_with_table(tally, READ_BACK, &Ok(answer.into()), 0);
+    Lookup::new(STANDARD_READING, record, &[tag]).compare_with_table(tally, READ_BACK, Ok((place, value)));
 }
 
-/// Any object, written to buffers around its end, and to any buffer from any place; and a tag written and read back.
-pub fn random(tally: &mut Tally, inputs: &mut Inputs) {
-    let any = inputs.number();
+/// A random object, in buffers that it just fits, and in a random buffer from a random place; and a tag that is read
+/// back.
+pub fn random_cases(tally: &mut Tally, random: &mut Random) {
+    let any = random.number();
     let three = (any >> 40) as u32;
-    let tag = match inputs.below(4) {
-        0 => inputs.one_of(&TAGS),
+    let tag = match random.below(4) {
+        0 => random.one_of(&TAGS),
         1 => three & 0xFF,
         2 => three & 0xFFFF,
         _ => three,
     };
-    let n = match inputs.below(1_000) {
-        0 => 65_530 + inputs.below(12),
-        1..300 => 120 + inputs.below(145),
-        _ => inputs.below(20),
+    let n = match random.below(1_000) {
+        0 => 65_530 + random.below(12),
+        1..300 => 120 + random.below(145),
+        _ => random.below(20),
     };
-    let row = inputs.row();
-    let start = inputs.below(row.len() - n + 1);
-    let object = object(tag, &row[start..start + n]);
-    around_the_end(tally, object, inputs.below(9));
-    let (buffer_len, at) = (inputs.below(n + 12), inputs.below(12));
-    put(object, at).compare(tally, buffer_len, inputs.below(3));
+    let string = random.long_string();
+    let start = random.below(string.len() - n + 1);
+    let object = object(tag, &string[start..start + n]);
+    around_the_end(tally, object, random.below(9));
+    let (buffer_len, at) = (random.below(n + 12), random.below(12));
+    put_data_object(object, at).compare(tally, buffer_len, random.below(3));
     let [_, _, _, b1, b2, b3, ..] = any.to_be_bytes().map(u32::from);
     let b1 = b1 | 0x1F;
     let tag = match b2 {
@@ -198,15 +202,16 @@ pub fn random(tally: &mut Tally, inputs: &mut Inputs) {
         0x81..=0xFF => (b1 << 16) + (b2 << 8) + (b3 & 0x7F),
         _ => b1 & 0xFE,
     };
-    read_back(tally, inputs, tag);
+    read_back(tally, random, tag);
 }
 
-pub fn compare(tally: &mut Tally, inputs: &mut Inputs) {
-    every_place(tally, inputs);
-    every_boundary(tally, inputs);
-    every_place_at_a_boundary(tally, inputs);
-    every_tag(tally, inputs);
+/// The short run.
+pub fn compare(tally: &mut Tally, random: &mut Random) {
+    every_place(tally, random);
+    every_boundary(tally, random);
+    every_place_at_a_boundary(tally, random);
+    every_tag(tally, random);
     for tag in (0..=0xFF).flat_map(accepted) {
-        read_back(tally, inputs, tag);
+        read_back(tally, random, tag);
     }
 }

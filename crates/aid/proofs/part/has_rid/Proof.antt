@@ -1,8 +1,8 @@
 use borrow.Author.Needs.{needs}
-use Rattle.basis.proofs.Reply.{told}
-use Rattle.aid.specs.Category.{saidCategory}
-use Rattle.aid.specs.Part.{hasRid}
-use Rattle.aid.proofs.Spans.{up-to}
+use Rattle.basis.proofs.Reply.{matched-reply}
+use Rattle.aid.specs.Category.{categoryAsNumber}
+use Rattle.aid.specs.Parts.{hasRid}
+use Rattle.aid.proofs.Spans.{length-up-to-16}
 use Rattle.aid.proofs.part.has_rid.Statement.{statement}
 use Rattle.aid.proofs.part.has_rid.Tie as tie
 
@@ -10,13 +10,13 @@ returns : tie.Need-returns
 unfolding hasRid
 returns c =
     let d = c .before .before .before in
-    rw (told saidCategory (c .before .before .category .ensures) (c .enum-told .given .1), up-to (d .before .args .aid) _ (search needs) (d .up-to-16 .ensures))
+    rw (matched-reply categoryAsNumber (c .before .before .category .ensures) (c .enum-told .given .1), length-up-to-16 (d .before .args .aid) _ (search needs) (d .up-to-16 .ensures))
 
 returns-2 : tie.Need-returns-2
 unfolding hasRid
 returns-2 c =
     let d = c .before .before .before in
-    rw (told saidCategory (c .before .before .category .ensures) (c .enum-told2 .given .1), up-to (d .before .args .aid) _ (search needs) (d .up-to-16 .ensures))
+    rw (matched-reply categoryAsNumber (c .before .before .category .ensures) (c .enum-told2 .given .1), length-up-to-16 (d .before .args .aid) _ (search needs) (d .up-to-16 .ensures))
 
 pub has-rid-spec : {M : Type 1} → statement M
 unfolding hasRid
@@ -32,6 +32,6 @@ has-rid-spec =
     (λ c. search needs)
     returns
     returns-2
-    (λ c. rw (told saidCategory (c .before .before .category .ensures) (c .enum-told3 .given .1)))
-    (λ c. rw (told saidCategory (c .before .before .category .ensures) (c .enum-told4 .given .1)))
-    (λ c. rw (told saidCategory (c .before .before .category .ensures) (c .enum-told5 .given .1))))
+    (λ c. rw (matched-reply categoryAsNumber (c .before .before .category .ensures) (c .enum-told3 .given .1)))
+    (λ c. rw (matched-reply categoryAsNumber (c .before .before .category .ensures) (c .enum-told4 .given .1)))
+    (λ c. rw (matched-reply categoryAsNumber (c .before .before .category .ensures) (c .enum-told5 .given .1))))

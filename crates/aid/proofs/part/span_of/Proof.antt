@@ -3,8 +3,8 @@ use native.Mathlib.Omega.{arith}
 use mathlib.Core.Path.{_≡_, sym, ap, _∙_}
 use mathlib.Core.Option.{some}
 use lib.ListN.{length, length-take}
-use Rattle.aid.specs.Part.{partOf}
-use Rattle.basis.proofs.Part.{part-is}
+use Rattle.aid.specs.Parts.{partOf}
+use Rattle.basis.proofs.Over.{part-is}
 use Rattle.aid.proofs.Spans.{rid-long, rid-at}
 use Rattle.aid.proofs.part.span_of.Statement.{statement}
 use Rattle.aid.proofs.part.span_of.Tie as tie

@@ -3,15 +3,15 @@ use native.Mathlib.Omega.{arith}
 use Prim.Native.Nat.{ℕ, _+_}
 use mathlib.Core.Path.{_≡_, sym, ap, _∙_}
 use lib.ListN.{length}
-use Rattle.basis.specs.Reply.{is}
+use Rattle.basis.specs.Reply.{ok}
 use Rattle.builder.specs.Bytes.{lcLen, leLen, requiredLen}
 use Rattle.builder.specs.declared.CommandBuilder.{CommandBuilder}
 use Rattle.builder.proofs.Lengths.{lengths-few, required-is}
-use Rattle.builder.proofs.Data.{too-many, few}
+use Rattle.builder.proofs.Data.{too-many, few-enough}
 use Rattle.builder.proofs.CommandBuilder.required_len.Statement.{statement}
 use Rattle.builder.proofs.CommandBuilder.required_len.Tie as tie
 
--- where the sizes of Lc and Le are known
+-- builder and number of data bytes, after the sizes of Lc and Le were computed
 abbrev b : tie.After-sizes → CommandBuilder
 b c = c .before .before .before .args .self
 
@@ -34,7 +34,7 @@ sum-is c = omega (arith, lc-is c, le-is c, required-is (b c) (n c))
 returns-2 : tie.Need-returns-2
 returns-2 c =
     let z = c .before .before in
-    ap is (sum-is z) ∙ sym (few (n z) _ (z .before .if1 .left))
+    ap ok (sum-is z) ∙ sym (few-enough (n z) _ (z .before .if1 .left))
 
 pub required-len-spec : {M : Type 1} → statement M
 required-len-spec =

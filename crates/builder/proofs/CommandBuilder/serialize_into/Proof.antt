@@ -4,19 +4,19 @@ use Prim.Native.Nat.{ℕ, _+_, _-_}
 use mathlib.Core.Path.{_≡_, sym, ap, _∙_}
 use mathlib.Core.List.{List}
 use lib.ListN.{length, take, drop}
-use Rattle.basis.specs.Reply.{is}
-use Rattle.basis.specs.Part.{over, put}
-use Rattle.basis.proofs.Part.{lent}
+use Rattle.basis.specs.Reply.{ok}
+use Rattle.basis.specs.Over.{over, overAt}
+use Rattle.basis.proofs.Over.{lent}
 use Rattle.builder.specs.Bytes.{lcLen, leLen, requiredLen, commandOf}
-use Rattle.builder.specs.Sizes.{laid}
+use Rattle.builder.specs.Sizes.{laidOut}
 use Rattle.builder.specs.declared.CommandBuilder.{CommandBuilder}
-use Rattle.builder.proofs.Cases.{laid-is}
+use Rattle.builder.proofs.Cases.{laid-out-is}
 use Rattle.builder.proofs.Lengths.{lengths-few, length-command, required-is}
 use Rattle.builder.proofs.Fitting.{data-too-long, buffer-too-short, fits}
 use Rattle.builder.proofs.CommandBuilder.serialize_into.Statement.{statement}
 use Rattle.builder.proofs.CommandBuilder.serialize_into.Tie as tie
 
--- where the sizes of Lc and Le are known
+-- builder, data, buffer and place, after the sizes of Lc and Le were computed
 abbrev b : tie.After-sizes → CommandBuilder
 b c = c .before .before .before .before .before .args .self
 
@@ -40,8 +40,8 @@ sum-is : (c : tie.After-sizes) → 4 + c .sizes .result .lc + length (d c) + c .
 sum-is c = omega (arith, lc-is c, le-is c, required-is (b c) (length (d c)))
 
 -- the fields of these sizes are the command
-command-is : (c : tie.After-sizes) → laid (b c) (c .sizes .result) (d c) ≡ commandOf (b c) (d c)
-command-is c = ap (λ f. laid (b c) f (d c)) (c .sizes .ensures) ∙ laid-is (b c) (d c)
+command-is : (c : tie.After-sizes) → laidOut (b c) (c .sizes .result) (d c) ≡ commandOf (b c) (d c)
+command-is c = ap (λ f. laidOut (b c) f (d c)) (c .sizes .ensures) ∙ laid-out-is (b c) (d c)
 
 returns : tie.Need-returns
 returns c =
@@ -60,10 +60,10 @@ returns-3 c =
     let e = buffer-too-short (b z) (d z) (length (buffer z)) (at z) (z .before .before .if1 .left) (omega (arith, sum-is z, z .before .if2 .left, c .if3 .taken)) in
     record { reply = sym e; buffer = rw e }
 
--- the command was written over the front of the buffer's part from the place on
+-- the command was written over the beginning of the part of the buffer that starts at the place
 wrote : (c : tie.After-put-command) → let z = c .before .before .before .before .before in
     c .put-command .last .1 .1 .1 .0
-    ≡ over (laid (b z) (z .sizes .result) (d z)) (take (length (buffer z) - at z) (drop (at z) (buffer z)))
+    ≡ over (laidOut (b z) (z .sizes .result) (d z)) (take (length (buffer z) - at z) (drop (at z) (buffer z)))
 wrote c = c .put-command .ensures
 
 returns-4 : tie.Need-returns-4
@@ -71,14 +71,14 @@ returns-4 c =
     let i = c .before .before .before .before in
     let z = i .before .before .before in
     let e = fits (b z) (d z) (length (buffer z)) (at z) (z .before .before .if1 .left) (omega (arith, sum-is z, z .before .if2 .left, i .if3 .left)) in
-    let long : length (laid (b z) (z .sizes .result) (d z)) ≡ requiredLen (b z) (length (d z)) =
+    let long : length (laidOut (b z) (z .sizes .result) (d z)) ≡ requiredLen (b z) (length (d z)) =
     ap length (command-is z) ∙ length-command (b z) (d z) in
     record {
-      reply = ap is (sum-is z) ∙ sym e;
+      reply = ap ok (sum-is z) ∙ sym e;
       buffer = rw e
-          (lent (buffer z) (at z) (laid (b z) (z .sizes .result) (d z)) _ (omega (arith, long, sum-is z, z .before .if2 .left, i .if3 .left))
+          (lent (buffer z) (at z) (laidOut (b z) (z .sizes .result) (d z)) _ (omega (arith, long, sum-is z, z .before .if2 .left, i .if3 .left))
           (wrote (c .before .before))
-          ∙ ap (λ (l : List ℕ). put (at z) l (buffer z)) (command-is z));
+          ∙ ap (λ (l : List ℕ). overAt (at z) l (buffer z)) (command-is z));
     }
 
 pub serialize-into-spec : {M : Type 1} → statement M

@@ -2,7 +2,7 @@ use borrow.Author.Needs.{needs}
 use native.Mathlib.Omega.{arith}
 use mathlib.Core.Path.{refl}
 use lib.ListN.{length, length-append}
-use Rattle.basis.proofs.Part.{next-over}
+use Rattle.basis.proofs.Over.{next-over}
 use Rattle.builder.specs.Sizes.{field}
 use Rattle.builder.proofs.Lengths.{length-field}
 use Rattle.builder.proofs.write.put_command.Statement.{statement}
@@ -16,8 +16,8 @@ returns c =
     let s = at-header .before .before .before .before in
     let d = s .args .«data» .now in
     let lc = length-field (s .args .sizes .lc) (length d) (s .pre .lc-few) in
-    let le = length-field (s .args .sizes .le) (s .args .sizes .shown) (s .pre .le-few) in
-    let behind = length-append (field (s .args .sizes .lc) (length d)) d in
+    let le = length-field (s .args .sizes .le) (s .args .sizes .written) (s .pre .le-few) in
+    let data-end = length-append (field (s .args .sizes .lc) (length d)) d in
     let room = s .pre .room in
     next-over _ _ _ _ _ _
     (next-over _ _ _ _ _ _ (at-header .put-header .ensures) refl (omega arith) (at-data .put-data .ensures))

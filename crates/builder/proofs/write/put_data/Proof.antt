@@ -2,7 +2,7 @@ use borrow.Author.Needs.{needs}
 use native.Mathlib.Omega.{arith}
 use mathlib.Core.Path.{sym, _∙_}
 use lib.ListN.{length}
-use Rattle.basis.proofs.Part.{copied, next-over}
+use Rattle.basis.proofs.Over.{copied, next-over}
 use Rattle.builder.specs.Sizes.{field as lengthField}
 use Rattle.builder.proofs.Lengths.{length-field}
 use Rattle.builder.proofs.write.put_data.Statement.{statement}

@@ -4,8 +4,8 @@ use mathlib.Core.Path.{_≡_}
 use mathlib.Core.List.{[], _∷_}
 use lib.ListN.{length-set}
 use Rattle.basis.specs.Number.{be}
-use Rattle.basis.specs.Part.{over}
-use Rattle.basis.proofs.Part.{stored}
+use Rattle.basis.specs.Over.{over}
+use Rattle.basis.proofs.Over.{stored}
 use Rattle.builder.specs.Sizes.{field}
 use Rattle.builder.proofs.write.put_field.Statement.{statement}
 use Rattle.builder.proofs.write.put_field.Tie as tie

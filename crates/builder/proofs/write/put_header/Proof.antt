@@ -1,7 +1,7 @@
 use borrow.Author.Needs.{needs}
 use native.Mathlib.Omega.{arith}
 use lib.ListN.{length-set}
-use Rattle.basis.proofs.Part.{stored}
+use Rattle.basis.proofs.Over.{stored}
 use Rattle.builder.specs.Bytes.{header}
 use Rattle.builder.proofs.write.put_header.Statement.{statement}
 use Rattle.builder.proofs.write.put_header.Tie as tie

@@ -14,8 +14,8 @@ returns-2 c =
     let i = c .before .before in
     let w = i .before in
     let v = w .before .before in
-    rw (ne-eqb _ _ (v .before .before .if1 .left), eq-eqb _ _ (i .if2 .taken), ← v .wide .ensures .0, ← w .wide2 .ensures .0)
-    (rw (← c .before .replace-zero .ensures) (c .are .ensures))
+    rw (ne-eqb _ _ (v .before .before .if1 .left), eq-eqb _ _ (i .if2 .taken), ← v .byte-number .ensures .0, ← w .byte-number2 .ensures .0)
+    (rw (← c .before .replace-zero .ensures) (c .lengths .ensures))
 
 returns-3 : tie.Need-returns-3
 unfolding extendedBody
@@ -23,7 +23,7 @@ returns-3 c =
     let i = c .before in
     let w = i .before in
     let v = w .before .before in
-    rw (ne-eqb _ _ (v .before .before .if1 .left), ne-eqb _ _ (i .if2 .left), ← v .wide .ensures .0, ← w .wide2 .ensures .0)
+    rw (ne-eqb _ _ (v .before .before .if1 .left), ne-eqb _ _ (i .if2 .left), ← v .byte-number .ensures .0, ← w .byte-number2 .ensures .0)
     (c .long-lengths .ensures)
 
 pub extended-lengths-spec : {M : Type 1} → statement M

@@ -7,7 +7,7 @@ use Rattle.listing.proofs.Sections.{size-next, size-none}
 use Rattle.listing.proofs.input.pass_items.Statement.{statement}
 use Rattle.listing.proofs.input.pass_items.Tie as tie
 
--- the place behind the items from the start on is that behind those that are left
+-- the place after all items is the place after those that are left
 abbrev Inv-loop : tie.InvT-loop
 Inv-loop input start count at₀ left₀ at left =
     (start + itemsSize count (drop start input) ≡ at + itemsSize left (drop at input)) × (at + 65537 * left ≤ start + 65537 * count)

@@ -5,34 +5,34 @@ use mathlib.Core.Path.{_≡_, sym, ap, _∙_}
 use mathlib.Core.List.{List, [], _∷_, _++_}
 use lib.ListN.{length, drop, length-drop}
 use lib.Seq.{drop-drop}
-use Rattle.basis.specs.Reply.{is}
-use Rattle.basis.proofs.Part.{rest-is}
+use Rattle.basis.specs.Reply.{ok}
+use Rattle.basis.proofs.Over.{rest-is}
 use Rattle.basis.proofs.Reply.{all-is}
-use Rattle.tlv.specs.Object.{Object, sizeOf, objectOf, said}
+use Rattle.tlv.specs.Object.{Object, sizeOf, objectOf, asReply}
 use Rattle.tlv.specs.declared.Reading.the-variants.{Crate}
 use Rattle.tlv.proofs.Within.{Ends, object-within}
 use Rattle.listing.specs.Text.{line, objectLine, objectLines}
-use Rattle.listing.proofs.Writing.{Left, left-first, left-as, left-room, left-next, left-none}
-use Rattle.listing.proofs.Walking.{linesFrom, lines-first, lines-end, lines-12, lines-next}
+use Rattle.listing.proofs.Writing.{ToWrite, to-write-first, to-write-as, to-write-room, to-write-next, to-write-none}
+use Rattle.listing.proofs.LineLaws.{linesFrom, lines-first, lines-end, lines-12, lines-next}
 use Rattle.listing.proofs.lines.put_objects.Statement.{statement}
 use Rattle.listing.proofs.lines.put_objects.Tie as tie
 
 -- the lines of the objects from the place on are still to be written
 abbrev Inv-loop : tie.InvT-loop
 Inv-loop out₀ start k «record» place₀ at₀ j₀ t11 out place at j =
-    Left (objectLines k «record») start out₀ (linesFrom k j at (drop at «record»)) place out × (at ≤ length «record») × (j ≤ at + 1)
+    ToWrite (objectLines k «record») start out₀ (linesFrom k j at (drop at «record»)) place out × (at ≤ length «record») × (j ≤ at + 1)
 
 abbrev μ-loop : tie.MeasureT-loop
 μ-loop out₀ start k «record» place₀ at₀ j₀ t11 out place at j = length «record» - at
 
--- what is left of the record in a turn, and what was read there
+-- the rest of the record in a turn of the loop, and what was read there
 abbrev Turn : Type 0
 Turn = tie.After-take-data-object Inv-loop μ-loop
 
 abbrev rest : Turn → List ℕ
 rest c = drop (c .before .before .loop .at) (c .before .before .before .before .before .args .«record» .now)
 
-read : (c : Turn) → objectOf Crate (rest c) ≡ said (c .take-data-object .result)
+read : (c : Turn) → objectOf Crate (rest c) ≡ asReply (c .take-data-object .result)
 read c = sym (rw rest-is at (c .take-data-object .ensures))
 
 -- an object that was read
@@ -45,11 +45,11 @@ turn c = c .before .before
 abbrev object : Met → Object
 object c = let g = c .tag .given .0 in record { tag = g .0; at = g .1 .0; len = g .1 .1 .0 }
 
-met : (c : Met) → objectOf Crate (rest (turn c)) ≡ is (object c)
-met c = read (turn c) ∙ ap said (c .tag .given .1)
+object-read : (c : Met) → objectOf Crate (rest (turn c)) ≡ ok (object c)
+object-read c = read (turn c) ∙ ap asReply (c .tag .given .1)
 
 ends : (c : Met) → Ends (length (rest (turn c))) (object c)
-ends c = all-is (Ends (length (rest (turn c)))) (objectOf Crate (rest (turn c))) (object c) (object-within Crate (rest (turn c))) (met c)
+ends c = all-is (Ends (length (rest (turn c)))) (objectOf Crate (rest (turn c))) (object c) (object-within Crate (rest (turn c))) (object-read c)
 
 inside : (c : Met) → let l = turn c .before .before in
     l .loop .at + sizeOf (object c) ≤ length (l .before .before .before .args .«record» .now)
@@ -57,35 +57,35 @@ inside c =
     let l = turn c .before .before in
     omega (arith, ends c .1, length-drop (l .loop .at) (l .before .before .before .args .«record» .now), l .loop .inv .1)
 
--- an object's line is next, and the lines behind it
+-- the line of an object is next, and then the lines after it
 abbrev further : Met → List ℕ
 further c =
     let l = turn c .before .before in
     linesFrom (l .before .before .before .args .k) (l .loop .j + 1) (l .loop .at + sizeOf (object c)) (drop (sizeOf (object c)) (rest (turn c)))
 
 next : (c : Met) → let l = turn c .before .before in let a = l .before .before .before .args in
-    Left (objectLines (a .k) (a .«record» .now)) (a .start) (a .out .now)
+    ToWrite (objectLines (a .k) (a .«record» .now)) (a .start) (a .out .now)
     (objectLine (a .k) (l .loop .j) (object c .tag) (object c .len) ++ further c) (l .loop .place) (l .loop .out)
 next c =
     let l = turn c .before .before in
-    left-as (lines-next (l .before .before .before .args .k) (l .loop .j) (l .loop .at) (rest (turn c)) (object c) (met c)) (l .loop .inv .0)
+    to-write-as (lines-next (l .before .before .before .args .k) (l .loop .j) (l .loop .at) (rest (turn c)) (object c) (object-read c)) (l .loop .inv .0)
 
 returns : tie.Need-returns Inv-loop μ-loop
 returns c =
     let t = c .before .before in
     let l = t .before .before in
-    let e = lines-end (l .before .before .before .args .k) (l .loop .j) (l .loop .at) (rest t) (read t ∙ ap said (c .enum-told .given .1)) in
-    left-none (left-as e (l .loop .inv .0))
+    let e = lines-end (l .before .before .before .args .k) (l .loop .j) (l .loop .at) (rest t) (read t ∙ ap asReply (c .enum-told .given .1)) in
+    to-write-none (to-write-as e (l .loop .inv .0))
 
 -- an object that cannot be read: its line is the last
 last : (c : tie.After-enum-told2 Inv-loop μ-loop) → let l = c .before .before .before .before in let a = l .before .before .before .args in
-    Left (objectLines (a .k) (a .«record» .now)) (a .start) (a .out .now) (line "%.% refused %\n" (a .k ∷ l .loop .j ∷ 12 ∷ []))
+    ToWrite (objectLines (a .k) (a .«record» .now)) (a .start) (a .out .now) (line "%.% refused %\n" (a .k ∷ l .loop .j ∷ 12 ∷ []))
     (l .loop .place) (l .loop .out)
 last c =
     let t = c .before .before in
     let l = t .before .before in
-    let e = lines-12 (l .before .before .before .args .k) (l .loop .j) (l .loop .at) (rest t) (read t ∙ ap said (c .enum-told2 .given .1)) in
-    left-as e (l .loop .inv .0)
+    let e = lines-12 (l .before .before .before .args .k) (l .loop .j) (l .loop .at) (rest t) (read t ∙ ap asReply (c .enum-told2 .given .1)) in
+    to-write-as e (l .loop .inv .0)
 
 fill-requires : tie.Need-fill-requires Inv-loop μ-loop
 fill-requires c κs = last (c .before .before .before) .room
@@ -97,7 +97,7 @@ object-line-requires : tie.Need-object-line-requires Inv-loop μ-loop
 object-line-requires c κs =
     let m = c .before .before in
     let l = turn m .before .before in
-    left-room (objectLine (l .before .before .before .args .k) (l .loop .j) (object m .tag) (object m .len)) (further m) (next m)
+    to-write-room (objectLine (l .before .before .before .args .k) (l .loop .j) (object m .tag) (object m .len)) (further m) (next m)
 
 loop-again : tie.Need-loop-again Inv-loop μ-loop
 loop-again c =
@@ -105,7 +105,7 @@ loop-again c =
     let m = p .before .before .before in
     let l = turn m .before .before in
     let s = l .before .before .before .args .«record» .now in (
-      rw (drop-drop (sizeOf (object m)) (l .loop .at) s) at (left-next (next m) (p .object-line .ensures)),
+      rw (drop-drop (sizeOf (object m)) (l .loop .at) s) at (to-write-next (next m) (p .object-line .ensures)),
       inside m,
       omega (arith, ends m .0, l .loop .inv .2),
     )
@@ -113,8 +113,8 @@ loop-again c =
 loop-holds : tie.Need-loop-holds Inv-loop μ-loop
 loop-holds c =
     let a = c .before .before .args in
-    let whole = left-first (objectLines (a .k) (a .«record» .now)) (a .start) (a .out .now) (c .before .before .pre) in
-    (left-as (lines-first (a .k) (a .«record» .now)) whole, omega arith, omega arith)
+    let whole = to-write-first (objectLines (a .k) (a .«record» .now)) (a .start) (a .out .now) (c .before .before .pre) in
+    (to-write-as (lines-first (a .k) (a .«record» .now)) whole, omega arith, omega arith)
 
 pub put-objects-spec : {M : Type 1} → statement M
 put-objects-spec =
@@ -128,13 +128,13 @@ put-objects-spec =
     (λ c. search needs)
     (λ c κs. search needs)
     (λ c. search needs)
-    (λ c. returns c .same)
+    (λ c. returns c .same-length)
     returns
     (λ c. search needs)
     (λ c. search needs)
     (λ c. search needs)
     fill-requires
-    (λ c. returns-2 c .same)
+    (λ c. returns-2 c .same-length)
     returns-2
     (λ c. search needs)
     object-line-requires

@@ -56,7 +56,7 @@ put-byte-requires-2 t c κs =
     let q = c .before .before .before .before in
     let b = q .before .before in
     let p = b .before .before in
-    omega (arith, q .put-decimal .ensures .behind, q .put-decimal .ensures .same, p .pre .1, length-more (p .args .n) (omega (arith, b .if1 .left)))
+    omega (arith, q .put-decimal .ensures .end, q .put-decimal .ensures .same-length, p .pre .1, length-more (p .args .n) (omega (arith, b .if1 .left)))
 
 put-decimal-returns-2 : (t : ℕ) → put-decimal-lts.Need-returns-2 (claims t) (put-decimal-at t) put-decimal.Post
 put-decimal-returns-2 t c =

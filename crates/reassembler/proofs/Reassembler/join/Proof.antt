@@ -1,7 +1,7 @@
 use borrow.Author.Needs.{needs}
 use mathlib.Core.Path.{sym, ap, _∙_}
-use Rattle.command.specs.Command.{said}
-use Rattle.reassembler.proofs.Pieces.{not-read, read}
+use Rattle.command.specs.Command.{asReply}
+use Rattle.reassembler.proofs.JoinPromise.{not-parsed, parsed}
 use Rattle.reassembler.proofs.Reassembler.join.Statement.{statement}
 use Rattle.reassembler.proofs.Reassembler.join.Tie as tie
 
@@ -9,7 +9,7 @@ returns : tie.Need-returns
 returns c =
     let k = c .before .before in
     let a = k .before .before .before .before .before .args in
-    not-read (a .self) (a .piece .now) (a .room .now) _ _ (sym (k .before .before .try-from .ensures) ∙ ap said (k .k .given .1)) (c .refused .ensures)
+    not-parsed (a .self) (a .piece .now) (a .room .now) _ _ (sym (k .before .before .try-from .ensures) ∙ ap asReply (k .k .given .1)) (c .refused .ensures)
 
 returns-2 : tie.Need-returns-2
 returns-2 c =
@@ -17,7 +17,7 @@ returns-2 c =
     let p = j .before .before in
     let v = p .before .before in
     let a = v .before .before .before .before .before .args in
-    read (a .self) (a .piece .now) (a .room .now) (v .view .given .0 .0) _ _ _ (sym (v .before .before .try-from .ensures) ∙ ap said (v .view .given .1))
+    parsed (a .self) (a .piece .now) (a .room .now) (v .view .given .0 .0) _ _ _ (sym (v .before .before .try-from .ensures) ∙ ap asReply (v .view .given .1))
     (p .part .ensures) (j .join-view .ensures)
 
 pub join-spec : {M : Type 1} → statement M

@@ -2,7 +2,7 @@ use borrow.Author.Needs.{needs}
 use borrow.Author.Tests.{not-true, not-false}
 use mathlib.Core.Path.{sym, _∙_}
 use native.Mathlib.Omega.{arith}
-use Rattle.reassembler.proofs.Pieces.{apart, refused, taken}
+use Rattle.reassembler.proofs.JoinPromise.{not-continued, not-extended, data-joined}
 use Rattle.reassembler.proofs.Reassembler.join_view.Statement.{statement}
 use Rattle.reassembler.proofs.Reassembler.join_view.Tie as tie
 
@@ -11,7 +11,7 @@ returns c =
     let i = c .before in
     let n = i .before in
     let a = n .before .before .before .args in
-    apart (a .self) (a .view) (a .«data» .now) (a .room .now) _ _ (sym (n .continues .ensures) ∙ not-true _ (i .if1 .taken)) (c .refused .ensures)
+    not-continued (a .self) (a .view) (a .«data» .now) (a .room .now) _ _ (sym (n .continues .ensures) ∙ not-true _ (i .if1 .taken)) (c .refused .ensures)
     (omega arith)
 
 returns-2 : tie.Need-returns-2
@@ -20,7 +20,7 @@ returns-2 c =
     let x = k .before .before .before .before in
     let i = x .before .before .before in
     let a = i .before .before .before .before .args in
-    refused (a .self) (a .view) (a .«data» .now) (a .room .now) _ _ (sym (i .before .continues .ensures) ∙ not-false _ (i .if1 .left)) _ _
+    not-extended (a .self) (a .view) (a .«data» .now) (a .room .now) _ _ (sym (i .before .continues .ensures) ∙ not-false _ (i .if1 .left)) _ _
     (x .before .before .command .ensures) (x .extend-from-command-view .ensures) _ (k .answer .given .1) (c .refused2 .ensures)
 
 returns-3 : tie.Need-returns-3
@@ -29,7 +29,7 @@ returns-3 c =
     let x = k .before .before .before .before in
     let i = x .before .before .before in
     let a = i .before .before .before .before .args in
-    taken (a .self) (a .view) (a .«data» .now) (a .room .now) _ _ (sym (i .before .continues .ensures) ∙ not-false _ (i .if1 .left)) _ _
+    data-joined (a .self) (a .view) (a .«data» .now) (a .room .now) _ _ (sym (i .before .continues .ensures) ∙ not-false _ (i .if1 .left)) _ _
     (x .before .before .command .ensures) (x .extend-from-command-view .ensures) (k .enum-told .given .1) (c .accepted .ensures)
 
 pub join-view-spec : {M : Type 1} → statement M

@@ -1,4 +1,4 @@
--- It ends: each turn takes a byte. Assumes nothing.
+-- The loop ends: each turn takes a byte.
 use borrow.Author.Needs.{needs}
 use Prim.Native.Nat.{_-_}
 use lib.ListN.{length}

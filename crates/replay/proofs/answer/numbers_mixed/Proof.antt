@@ -1,4 +1,4 @@
--- It ends: each turn takes a number. Assumes nothing.
+-- The loop ends: each turn takes a number.
 use borrow.Author.Needs.{needs}
 use Prim.Native.Nat.{_-_}
 use Rattle.replay.proofs.answer.numbers_mixed.Statement.{statement}

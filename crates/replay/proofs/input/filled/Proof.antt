@@ -1,4 +1,4 @@
--- It ends: each turn puts a byte. Assumes nothing.
+-- The loop ends: each turn writes a byte.
 use borrow.Author.Needs.{needs}
 use Prim.Native.Nat.{_-_}
 use mathlib.Core.Path.{_≡_}

@@ -1,4 +1,4 @@
--- It ends: each turn reads a byte. Assumes nothing.
+-- The loop ends: each turn reads a byte.
 use borrow.Author.Needs.{needs}
 use Prim.Native.Nat.{_-_, _<_}
 use Rattle.replay.proofs.input.number.Statement.{statement}

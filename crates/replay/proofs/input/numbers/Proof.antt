@@ -1,4 +1,4 @@
--- It ends: each turn reads a number, at most 16. Assumes nothing.
+-- The loop ends: each turn reads a number, at most 16.
 use borrow.Author.Needs.{needs}
 use Prim.Native.Nat.{_-_}
 use Rattle.replay.proofs.input.numbers.Statement.{statement}

@@ -3,7 +3,7 @@ use native.Mathlib.Omega.{arith}
 use Prim.Native.Nat.{_-_}
 use mathlib.Core.Path.{_≡_, sym}
 use native.Mathlib.Nat.{min-eq-left, min-eq-right}
-use Rattle.splitter.specs.Step.{roomIn, most}
+use Rattle.splitter.specs.Step.{roomIn, mostData}
 use Rattle.splitter.proofs.step.room.Statement.{statement}
 use Rattle.splitter.proofs.step.room.Tie as tie
 
@@ -16,11 +16,11 @@ returns c =
 
 returns-2 : tie.Need-returns-2
 unfolding roomIn
-returns-2 c = rw (← c .before .most .ensures) (sym (min-eq-left (c .if2 .taken)))
+returns-2 c = rw (← c .before .most-data .ensures) (sym (min-eq-left (c .if2 .taken)))
 
 returns-3 : tie.Need-returns-3
 unfolding roomIn
-returns-3 c = rw (c .before .most .ensures) (sym (min-eq-right (omega (arith, c .before .most .ensures, c .if2 .left))))
+returns-3 c = rw (c .before .most-data .ensures) (sym (min-eq-right (omega (arith, c .before .most-data .ensures, c .if2 .left))))
 
 pub room-spec : {M : Type 1} → statement M
 room-spec =

@@ -1,7 +1,7 @@
 use borrow.Author.Needs.{needs}
 use native.Mathlib.Omega.{arith}
-use Rattle.basis.proofs.Truth.{says, says-not}
-use Rattle.class.specs.Chain.{notTheLast, saidChain}
+use Rattle.basis.proofs.Truth.{number-is, number-is-not}
+use Rattle.class.specs.Chain.{notTheLast, chainAsNumber}
 use Rattle.class.proofs.chain.Chain.not_the_last.Statement.{statement}
 use Rattle.class.proofs.chain.Chain.not_the_last.Tie as tie
 
@@ -12,6 +12,6 @@ not-the-last-spec =
     (λ c. search needs)
     (λ c. search needs)
     (λ c. search needs)
-    (λ c. says-not saidChain notTheLast (c .enum-told .given .1) (omega arith))
-    (λ c. says saidChain notTheLast (c .enum-told2 .given .1) (omega arith))
-    (λ c. says-not saidChain notTheLast (c .enum-told3 .given .1) (omega arith)))
+    (λ c. number-is-not chainAsNumber notTheLast (c .enum-told .given .1) (omega arith))
+    (λ c. number-is chainAsNumber notTheLast (c .enum-told2 .given .1) (omega arith))
+    (λ c. number-is-not chainAsNumber notTheLast (c .enum-told3 .given .1) (omega arith)))

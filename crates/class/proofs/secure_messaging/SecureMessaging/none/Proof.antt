@@ -1,7 +1,7 @@
 use borrow.Author.Needs.{needs}
 use native.Mathlib.Omega.{arith}
-use Rattle.basis.proofs.Truth.{says, says-not}
-use Rattle.class.specs.SecureMessaging.{none, saidSecureMessaging}
+use Rattle.basis.proofs.Truth.{number-is, number-is-not}
+use Rattle.class.specs.SecureMessaging.{none, secureMessagingAsNumber}
 use Rattle.class.proofs.secure_messaging.SecureMessaging.none.Statement.{statement}
 use Rattle.class.proofs.secure_messaging.SecureMessaging.none.Tie as tie
 
@@ -14,8 +14,8 @@ none-spec =
     (λ c. search needs)
     (λ c. search needs)
     (λ c. search needs)
-    (λ c. says saidSecureMessaging none (c .enum-told .given .1) (omega arith))
-    (λ c. says-not saidSecureMessaging none (c .enum-told2 .given .1) (omega arith))
-    (λ c. says-not saidSecureMessaging none (c .enum-told3 .given .1) (omega arith))
-    (λ c. says-not saidSecureMessaging none (c .enum-told4 .given .1) (omega arith))
-    (λ c. says-not saidSecureMessaging none (c .enum-told5 .given .1) (omega arith)))
+    (λ c. number-is secureMessagingAsNumber none (c .enum-told .given .1) (omega arith))
+    (λ c. number-is-not secureMessagingAsNumber none (c .enum-told2 .given .1) (omega arith))
+    (λ c. number-is-not secureMessagingAsNumber none (c .enum-told3 .given .1) (omega arith))
+    (λ c. number-is-not secureMessagingAsNumber none (c .enum-told4 .given .1) (omega arith))
+    (λ c. number-is-not secureMessagingAsNumber none (c .enum-told5 .given .1) (omega arith)))

@@ -1,11 +1,11 @@
 use borrow.Author.Needs.{needs}
 use Rattle.builder.proofs.Data.{too-many}
-use Rattle.splitter.specs.Pieces.{leftOf}
+use Rattle.splitter.specs.Pieces.{nextLeftOf}
 use Rattle.splitter.proofs.pieces.Pieces.next.Statement.{statement}
 use Rattle.splitter.proofs.pieces.Pieces.next.Tie as tie
 
 returns : tie.Need-returns
-unfolding leftOf
+unfolding nextLeftOf
 returns c = rw (c .before .before .self .given .1, too-many _ _ (c .if1 .taken))
 
 returns-3 : tie.Need-returns-3

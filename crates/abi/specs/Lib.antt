@@ -1,0 +1,5 @@
+-- How an exported function answers a host program, and what the numbers of a host mean.
+pub mod Answers
+pub mod Readings
+pub mod Builders
+pub mod Commands

@@ -1,0 +1,2 @@
+-- The numbers and parts of an AID that a host program gets.
+pub mod Numbers

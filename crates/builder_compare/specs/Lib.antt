@@ -1,0 +1,2 @@
+-- What comparing a builder with a command means.
+pub mod Compare

@@ -1,6 +1,0 @@
-pub mod Runs
-pub mod Cuts
-pub mod Jobs
-pub mod Noise
-pub mod Demand
-pub mod Places

@@ -1,0 +1,2 @@
+-- The numbers of a class byte that a host program gets.
+pub mod Numbers

@@ -1,0 +1,2 @@
+-- One reply of the exported lookup.
+pub mod OneReply

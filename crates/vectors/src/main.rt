@@ -1,0 +1,38 @@
+// The program vectors: runs the cases that are run only (rule 11.15), and published vectors: commands of ISO/IEC 7816-3
+// and -4, EMV and ICAO 9303, and records of payment and travel cards. It prints for each what was expected and what was
+// found.
+//
+// The cases are the lines of standard input, crates/vectors/stdin, which says at its top how each kind is written.
+mod commands;
+mod cuts;
+mod records;
+mod report;
+mod text;
+
+// Runs a line, by its first letter. A line that is empty or starts with # is no case.
+fn line(line: &[u8]) {
+    match text::first(line) {
+        0 | b'#' => {}
+        b'c' => commands::run(line),
+        b'r' => records::run(line),
+        b'p' => cuts::run(line, b": expected ", b"refusal "),
+        b'u' => cuts::run(line, b": expected refusal ", b""),
+        _ => report::unknown(line),
+    }
+}
+
+// Runs all lines.
+fn run(file: &[u8]) {
+    let mut at = 0;
+    while at < file.len() {
+        let end = bytes::scan::find(file, at, file.len(), b'\n');
+        line(&file[at..end]);
+        at = end + 1;
+    }
+}
+
+fn main() {
+    let mut file = io::large_buffer();
+    let n = io::read_full(0, &mut file);
+    run(&file[..n]);
+}

@@ -1,0 +1,187 @@
+//! Cases with their answers from document 01, and the incident.
+
+use gorvisclen::{CRATE_READING, LEN_NUMBERS, OBJECT_NUMBERS, STANDARD_READING, TAG_NUMBERS};
+
+use super::lookup::Lookup;
+use super::records::length_forms;
+use super::take::{Len, Object, Tag, Take};
+use crate::call::Call;
+use crate::loops::pairs;
+use crate::random::Random;
+use crate::tally::Tally;
+
+/// P7, P8 and P9 are read alone, at the front of an object, and in a lookup.
+const P7_TO_P9: &str = "the cases P7, P8 and P9 (checked against document 01)";
+const RULES: &str = "the rules of BER records, case by case (checked against document 01)";
+const INCIDENT: &str = "the incident (checked against document 01)";
+
+const READINGS: [u8; 2] = [CRATE_READING, STANDARD_READING];
+
+/// The answers of both readings, that of the crate first.
+type Both<T> = [Result<T, u8>; 2];
+
+/// The label of some cases, their bytes in hex with commas between the cases, and what is taken from each.
+type TakeRow<const N: usize> = (&'static str, &'static str, Both<[u64; N]>);
+
+/// Tags, with each refusal and with each row in which the readings differ.
+const TAGS: [TakeRow<TAG_NUMBERS>; 15] = [
+    // P7: the crate's reading reads the tag 5F 1E.
+    (P7_TO_P9, "5F 1E", [Ok([0x5F1E, 2]), Err(12)]),
+    // P8: no reading reads the tag 5F 80.
+    (P7_TO_P9, "5F 80, 5F 80 01, 5F 80 01 AA", [Err(12); 2]),
+    (RULES, "", [Err(11); 2]),
+    (RULES, "00", [Ok([0x00, 1]); 2]),
+    (RULES, "5E 1F", [Ok([0x5E, 1]); 2]),
+    (RULES, "5F 1F", [Ok([0x5F1F, 2]); 2]),
+    (RULES, "5F 24 03", [Ok([0x5F24, 2]); 2]),
+    (RULES, "5F 7F", [Ok([0x5F7F, 2]); 2]),
+    (RULES, "DF 81 01", [Ok([0xDF8101, 3]); 2]),
+    (RULES, "DF FE 7F", [Ok([0xDFFE7F, 3]); 2]),
+    (RULES, "DF 81 80", [Ok([0xDF8180, 3]), Err(12)]),
+    (RULES, "DF 81 FF", [Ok([0xDF81FF, 3]), Err(12)]),
+    (RULES, "5F FF", [Ok([0x5FFF, 2]), Err(12)]),
+    (RULES, "5F FF 01", [Ok([0x5FFF, 2]), Ok([0x5FFF01, 3])]),
+    (RULES, "5F, 5F 1D, 5F 81, DF 81 81, DF 81 FE", [Err(12); 2]),
+];
+
+/// Lengths of each form.
+const LENGTHS: [TakeRow<LEN_NUMBERS>; 7] = [
+    // P9: no reading reads a length that starts with 83.
+    (P7_TO_P9, "83 00 00 01", [Err(12); 2]),
+    (RULES, "00", [Ok([0, 1]); 2]),
+    (RULES, "7F 01", [Ok([127, 1]); 2]),
+    (RULES, "81 05", [Ok([5, 2]); 2]),
+    (RULES, "82 00 05", [Ok([5, 3]); 2]),
+    (RULES, "82 FF FF 00", [Ok([65_535, 3]); 2]),
+    (RULES, ", 80 00, 81, 82 05, FF 00 00", [Err(12); 2]),
+];
+
+/// Objects, and bytes that are no object.
+const OBJECTS: [TakeRow<OBJECT_NUMBERS>; 7] = [
+    (P7_TO_P9, "5F 1E 01 AA", [Ok([0x5F1E, 3, 1]), Err(12)]),
+    (P7_TO_P9, "5F 80, 5F 80 01, 5F 80 01 AA, C1 83 00 00 01 AA", [Err(12); 2]),
+    (RULES, "", [Err(11); 2]),
+    (RULES, "5F 24 03 26 10 09", [Ok([0x5F24, 3, 3]); 2]),
+    (RULES, "00 00 00", [Ok([0x00, 2, 0]); 2]),
+    (RULES, "5A 82 00 01 AA BB", [Ok([0x5A, 4, 1]); 2]),
+    (RULES, "5F 24 03 26 10, 5F 24", [Err(12); 2]),
+];
+
+/// The label of a case, a record in hex, a path, and what is found there: the place of the value and its bytes.
+type LookupRow = (&'static str, &'static str, &'static [u32], Both<(usize, &'static [u8])>);
+
+/// The tag of the due date, the tag of a template, and a due date.
+const DUE: u32 = 0x5F24;
+const TEMPLATE: u32 = 0x70;
+const DATE: &[u8] = &[0x27, 0x01, 0x31];
+
+/// P7 to P9; the sentences about the lookup, each with a record of its own; the incident.
+const LOOKUPS: [LookupRow; 31] = [
+    (P7_TO_P9, "5F 1E 01 AA", &[0x5F1E], [Ok((3, &[0xAA])), Err(12)]),
+    (P7_TO_P9, "5F 1E 01 AA", &[0x5F1F], [Err(11), Err(12)]),
+    (P7_TO_P9, "5F 80", &[0x5F80], [Err(12); 2]),
+    (P7_TO_P9, "5F 80 01", &[0x5F80], [Err(12); 2]),
+    (P7_TO_P9, "5F 80 01 AA", &[0x5F80], [Err(12); 2]),
+    (P7_TO_P9, "C1 83 00 00 01 AA", &[0xC1], [Err(12); 2]),
+    // An empty path gives the whole record, even if it cannot be read or is empty.
+    (RULES, "5F 80", &[], [Ok((0, &[0x5F, 0x80])); 2]),
+    (RULES, "", &[], [Ok((0, &[])); 2]),
+    (RULES, "", &[0x5A], [Err(11); 2]),
+    // The first object with the tag counts.
+    (RULES, "5A 01 AA 5A 01 BB", &[0x5A], [Ok((2, &[0xAA])); 2]),
+    // It is entered, and there is no way back to a second one.
+    (RULES, "70 00 70 03 5A 01 AA", &[0x70, 0x5A], [Err(11); 2]),
+    // The lookup ends at the end of an entered value.
+    (RULES, "70 02 C1 00 5A 01 AA", &[0x70, 0x5A], [Err(11); 2]),
+    // A primitive value is entered too.
+    (RULES, "C1 03 5A 01 AA", &[0xC1, 0x5A], [Ok((4, &[0xAA])); 2]),
+    (RULES, "C1 02 5A 01 AA", &[0xC1, 0x5A], [Err(12); 2]),
+    // Damage after a match is not seen; damage before it is.
+    (RULES, "5A 01 AA 5F 80", &[0x5A], [Ok((2, &[0xAA])); 2]),
+    (RULES, "5A 01 AA 5F 80", &[0xC1], [Err(12); 2]),
+    (RULES, "5F 80 5A 01 AA", &[0x5A], [Err(12); 2]),
+    // A zero byte is a tag.
+    (RULES, "00 00 5A 01 AA", &[0x5A], [Ok((4, &[0xAA])); 2]),
+    (RULES, "00 5A 01 AA", &[0x5A], [Err(12); 2]),
+    (RULES, "5A 01 AA 00 01 BB", &[0x00], [Ok((5, &[0xBB])); 2]),
+    // An empty value at the end of the record.
+    (RULES, "C1 00 5A 81 00", &[0x5A], [Ok((5, &[])); 2]),
+    // A number that is no tag matches nothing.
+    (RULES, "5F 24 01 AA", &[0x5F], [Err(11); 2]),
+    (RULES, "5F 24 01 AA", &[0x0100_5F24], [Err(11); 2]),
+    (RULES, "5F 24 01 AA", &[0x5F24_01AA], [Err(11); 2]),
+    // A serial number that contains the bytes of a due date. The lookup finds the true due date after it, and is
+    // refused with 11 if there is none. The same in a template.
+    (INCIDENT, "C1 06 5F 24 03 26 10 09 5F 24 03 27 01 31", &[DUE], [Ok((11, DATE)); 2]),
+    (INCIDENT, "C1 06 5F 24 03 26 10 09", &[DUE], [Err(11); 2]),
+    (INCIDENT, "70 0E C1 06 5F 24 03 26 10 09 5F 24 03 27 01 31", &[TEMPLATE, DUE], [Ok((13, DATE)); 2]),
+    (INCIDENT, "70 0E C1 06 5F 24 03 26 10 09 5F 24 03 27 01 31", &[DUE], [Err(11); 2]),
+    (INCIDENT, "70 08 C1 06 5F 24 03 26 10 09", &[TEMPLATE, DUE], [Err(11); 2]),
+    (INCIDENT, "70 08 C1 06 5F 24 03 26 10 09 5F 24 03 27 01 31", &[TEMPLATE, DUE], [Err(11); 2]),
+    (INCIDENT, "70 08 C1 06 5F 24 03 26 10 09 5F 24 03 27 01 31", &[DUE], [Ok((13, DATE)); 2]),
+];
+
+/// Bytes from pairs of hex digits with blanks between them.
+fn unhex(digits: &str) -> Vec<u8> {
+    let bytes = digits.split_whitespace();
+    bytes.map(|byte| u8::from_str_radix(byte, 16).unwrap()).collect()
+}
+
+/// Compares what is taken from the front of some bytes with a table.
+fn takes<const N: usize, F: Take<N>>(tally: &mut Tally, _: F, rows: &[TakeRow<N>]) {
+    for (label, strings, answers) in rows {
+        for (string, (reading, answer)) in pairs(strings.split(','), READINGS.into_iter().zip(*answers)) {
+            let answer = answer.map(|numbers| numbers.into());
+            F::call(reading, &unhex(string)).compare_with_table(tally, label, &answer, 0);
+        }
+    }
+}
+
+/// Compares a lookup with the answers of both readings.
+fn lookup(tally: &mut Tally, label: &'static str, record: &[u8], path: &[u32], answers: Both<(usize, &[u8])>) {
+    // A copy of the path, which can be written to: a call that writes to it is reported.
+    let path = &path.to_vec();
+    for (reading, answer) in READINGS.into_iter().zip(answers) {
+        Lookup::new(reading, record, path).compare_with_table(tally, label, answer);
+    }
+}
+
+/// An object whose length is written in a random form.
+fn object(random: &mut Random, tag: &str, value: &[u8]) -> Vec<u8> {
+    let forms = length_forms(value.len());
+    [&unhex(tag), &forms[random.below(forms.len())], value].concat()
+}
+
+/// The incident with a random serial number, which often contains the bytes of a due date.
+fn random_serial_number(tally: &mut Tally, random: &mut Random) {
+    let most = random.one_of(&[1, 20, 300]);
+    let n = random.below(most);
+    let mut number = random.bytes(n);
+    if random.below(3) > 0 {
+        let at = random.below(n + 1);
+        number.splice(at..at, unhex("5F 24 03 26 10 09"));
+    }
+    let tag = random.one_of(&["C1", "5A", "5F 25", "DF 81 24"]);
+    let serial = object(random, tag, &number);
+    let date = &random.bytes(3)[..];
+    let with = [&serial[..], &object(random, "5F 24", date)].concat();
+    let [template, without] = [&with, &serial].map(|value| object(random, "70", value));
+    lookup(tally, INCIDENT, &with, &[DUE], [Ok((with.len() - 3, date)); 2]);
+    lookup(tally, INCIDENT, &serial, &[DUE], [Err(11); 2]);
+    lookup(tally, INCIDENT, &template, &[TEMPLATE, DUE], [Ok((template.len() - 3, date)); 2]);
+    lookup(tally, INCIDENT, &template, &[DUE], [Err(11); 2]);
+    lookup(tally, INCIDENT, &without, &[TEMPLATE, DUE], [Err(11); 2]);
+}
+
+/// The short run.
+pub fn compare(tally: &mut Tally, random: &mut Random) {
+    takes(tally, Tag, &TAGS);
+    takes(tally, Len, &LENGTHS);
+    takes(tally, Object, &OBJECTS);
+    for (label, record, path, answers) in LOOKUPS {
+        lookup(tally, label, &unhex(record), path, answers);
+    }
+    for _ in 0..5_000 {
+        random_serial_number(tally, random);
+    }
+}
