@@ -45,9 +45,9 @@ buffer-in-scope : (j : Job) → InScope j → 10 ≤ j .buffer
 buffer-in-scope j f = omega (arith, f .ten)
 
 -- as many replies as pieces, if there is a piece
-counted : (j : Job) → 1 ≤ length (pieces j) → length (repliesTo j) ≡ length (pieces j)
+one-reply-each : (j : Job) → 1 ≤ length (pieces j) → length (repliesTo j) ≡ length (pieces j)
 unfolding repliesTo
-counted j h = simp (length-append, length-replicate) (omega arith)
+one-reply-each j h = simp (length-append, length-replicate) (omega arith)
 
 module _ (j : Job) (f : InScope j) where
   abbrev builder : CommandBuilder
@@ -78,7 +78,7 @@ module _ (j : Job) (f : InScope j) where
 
   -- one reply for each piece
   pub one-each : length (repliesTo j) ≡ length (pieces j)
-  one-each = counted j some-piece
+  one-each = one-reply-each j some-piece
 
   -- the pieces of a job, sent with no chain open
   pub job-sent : (room : List ℕ) → HasRoom room j → run Closed room (pieces j) ≡ record { replies = repliesTo j; state = Closed; room = over d room }

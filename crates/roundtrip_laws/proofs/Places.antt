@@ -38,11 +38,11 @@ flat-append f (x ∷ xs) ys =
     ap (λ l. f x ++ l) (flat-append f xs ys) ∙ sym (append-assoc (f x) (flatMap f xs) (flatMap f ys))
 
 -- as many replies as pieces, for the jobs js before others
-counted : (js ks : List Job) → Every InScope (js ++ ks) → length (allReplies js) ≡ length (stream js)
+as-many-replies : (js ks : List Job) → Every InScope (js ++ ks) → length (allReplies js) ≡ length (stream js)
 unfolding flatMap
-counted [] ks f = refl
-counted (j ∷ js) ks f =
-    simp length-append (omega (arith, one-each j (f .0), counted js ks (f .1)))
+as-many-replies [] ks f = refl
+as-many-replies (j ∷ js) ks f =
+    simp length-append (omega (arith, one-each j (f .0), as-many-replies js ks (f .1)))
 
 -- There is one reply for each piece. A job, wherever it is in the list, has at least one piece. The reply to each of
 -- them but the last is "more". The reply to the last is the command of the request, extended if there were several
@@ -87,7 +87,7 @@ module _ (before after : List Job) (j : Job) (room : List ℕ) (f : Every InScop
       let first = length (stream before) in
       let before-it = allReplies before in
       let after-it = allReplies after in
-      let size = counted before (j ∷ after) f in (
+      let size = as-many-replies before (j ∷ after) f in (
         run-replies Closed room (stream (before ++ (j ∷ after))),
         some-piece j (every-at InScope before after j f),
         (λ i g. at-more sent before-it after-it (n - 1) first (ok none) (ok (some (commandBackTo j))) (refused 0) sent-is size i (omega (arith, g))),

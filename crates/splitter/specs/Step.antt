@@ -44,8 +44,9 @@ firstOf b =
       mode = b .mode;
     }
 
--- a step for n data bytes and a buffer of m bytes: 13 and 14 (rules 1.14 and 4.6); no split if the room covers the data (rule
--- 4.3); else the first part takes the room (rule 4.4), and the rest keeps class, mode and Le, lowered (rule 4.5)
+-- a step for n data bytes and a buffer of m bytes: 13 and 14 (rules 1.14 and 4.6); no split if the room covers the
+-- data (rule 4.3); else the first part takes the room (rule 4.4), and the rest keeps class, mode and Le, lowered (rule
+-- 4.5)
 unfoldable pub stepOf : CommandBuilder → ℕ → ℕ → Reply (Option Split)
 stepOf b n m =
     unlessLong n

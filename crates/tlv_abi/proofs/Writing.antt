@@ -88,14 +88,14 @@ module _ (t v : List ℕ) (at : ℕ) (b out : List ℕ) (n : ℕ) (u : n ≡ usa
       let f : reply ≡ refused k = same ∙ ap asReply e in
       record { reply = rw f; bytes = bytes-by (ltb (length out) 1) refl; row = rw f }
 
-  pub counted : (k : ℕ) → x ≡ Written k → 1 ≤ length out
-  counted k e = counted-by (ltb (length out) 1) refl
+  pub count-has-place : (k : ℕ) → x ≡ Written k → 1 ≤ length out
+  count-has-place k e = count-has-place-by (ltb (length out) 1) refl
     where
-      counted-by : (c : Bool) → ltb (length out) 1 ≡ c → 1 ≤ length out
-      counted-by true f =
+      count-has-place-by : (c : Bool) → ltb (length out) 1 ≡ c → 1 ≤ length out
+      count-has-place-by true f =
           let h = ltb-true (length out) 1 f in
           absurd (omega (arith, some-room t v at 0 k (sym (no-row t v at (length b) (length out) h) ∙ same ∙ ap asReply e)))
-      counted-by false f = ltb-false (length out) 1 f
+      count-has-place-by false f = ltb-false (length out) 1 f
 
   pub object-written : (k : ℕ) (out′ : List ℕ) → x ≡ Written k → out′ ≡ over (k ∷ []) out → ObjectWritten t v at b out 0 (ys ++ drop n b) out′
   object-written k out′ e g =

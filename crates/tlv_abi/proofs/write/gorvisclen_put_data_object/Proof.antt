@@ -7,7 +7,7 @@ use lib.ListN.{length}
 use lib.Seq.{length-take-le}
 use Rattle.basis.proofs.Over.{stored}
 use Rattle.abi.proofs.AnswerLaws.{usable-le}
-use Rattle.tlv_abi.proofs.Writing.{write-refused, counted, object-written}
+use Rattle.tlv_abi.proofs.Writing.{write-refused, count-has-place, object-written}
 use Rattle.tlv_abi.proofs.write.gorvisclen_put_data_object.Statement.{statement}
 use Rattle.tlv_abi.proofs.write.gorvisclen_put_data_object.Tie as tie
 
@@ -22,7 +22,7 @@ one : (c : tie.After-n) → 1 ≤ length (c .before .before .before .before .bef
 one c =
     let p = c .before .before .before .before in
     let a = p .before .before .before .before .before .before .args in
-    counted _ _ _ (a .buffer .now) (a .out .now) _ (p .before .before .usable-len .ensures) _ _ (p .put-data-object .ensures) _ (c .n .given .1)
+    count-has-place _ _ _ (a .buffer .now) (a .out .now) _ (p .before .before .usable-len .ensures) _ _ (p .put-data-object .ensures) _ (c .n .given .1)
 
 returns : tie.Need-returns
 returns c =
