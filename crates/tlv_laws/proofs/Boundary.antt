@@ -7,8 +7,9 @@ use mathlib.Core.List.{List, [], _∷_, _++_}
 use native.Mathlib.Nat.{add-zero}
 use native.Mathlib.Omega.{arith}
 use lib.Dec.{leb, eqb}
-use lib.ListN.{length, take, drop, length-take, length-drop, length-append, drop-of-length-le}
-use lib.Seq.{take-length, take-take, take-append-le, drop-append-le, getD-drop}
+use native.Mathlib.Decide.{decLe}
+use lib.ListN.{length, take, drop, length-take, length-drop, length-append, drop-of-length-le, List·getD-eq-default}
+use lib.Seq.{take-length, take-take, take-append-le, drop-append-le, getD-take, getD-drop}
 use borrow.Author.Tests.{eqb-true, eqb-false}
 use Rattle.basis.specs.Number.{Bytes}
 use Rattle.basis.specs.Reply.{Reply, ok, refused, then}
@@ -17,7 +18,7 @@ use Rattle.basis.proofs.Truth.{on-cond}
 use Rattle.tlv.specs.Tag.{Tag, tagOf}
 use Rattle.tlv.specs.Len.{Len, lenOf}
 use Rattle.tlv.specs.Object.{Object, sizeOf, objectOf}
-use Rattle.tlv.specs.Lookup.{Span, seek, follow, lookup}
+use Rattle.tlv.specs.Lookup.{Span, part, wholeRecord, seek, follow, lookup}
 use Rattle.tlv.specs.declared.Reading.{Reading}
 use Rattle.tlv.proofs.Tags.{by-tag}
 use Rattle.tlv.proofs.Lengths.{by-length}
@@ -133,7 +134,7 @@ object-tag r s =
 abbrev pub NoTag : Reading → ℕ → Type 0
 NoTag r n = (s : List ℕ) → Bytes s → (t : Tag) → tagOf r s ≡ ok t → t .number ≡ n → ⊥
 
--- It matches no object (rule 6.12): it is found in no bytes, and no path that starts with it leads to a value.
+-- It matches no object (rule 6.12): it is found in no bytes, and no path with it, at any place, leads to a value.
 pub no-tag-sought : (r : Reading) (n : ℕ) → NoTag r n → (a : ℕ) (s : List ℕ) → Bytes s → (p : Span) → seek r n a s ≡ ok p → ⊥
 unfolding TagOf
 no-tag-sought r n none =
@@ -143,12 +144,31 @@ no-tag-sought r n none =
     let rest : Bytes (drop (sizeOf o) s) = λ i. omega (arith, small (sizeOf o + i), getD-drop (sizeOf o) s i 0) in
     further rest p (sym (seek-next r n a s o e (λ h. none s small (t .0) (t .1 .0) (t .1 .1 ∙ h))) ∙ q))
 
-pub no-tag-found : (r : Reading) (n : ℕ) → NoTag r n → (s path : List ℕ) → Bytes s → (p : Span) → lookup r s (n ∷ path) ≡ ok p → ⊥
+-- a part of bytes is bytes
+bytes-part : (s : List ℕ) (p : Span) → Bytes s → Bytes (part s p)
+bytes-part s p h i =
+    elim (decLe (p .len) i) [
+      | yes g ↦ omega (arith, List·getD-eq-default (part s p) 0 {n = i} (omega (arith, length-take (p .len) (drop (p .at) s))))
+      | no g ↦ omega (arith, h (p .at + i), getD-drop (p .at) s i 0, getD-take (p .len) (drop (p .at) s) i 0 (omega arith))
+    ]
+
+no-tag-followed : (r : Reading) (n : ℕ) → NoTag r n → (s : List ℕ) → Bytes s → (before path : List ℕ) (p q : Span)
+    → follow r s p (before ++ (n ∷ path)) ≡ ok q → ⊥
 unfolding follow
-no-tag-found r n none s path small p e =
-    by-reply (seek r n 0 s) (λ q f. no-tag-sought r n none 0 s small q f) (λ k f.
-    let none : lookup r s (n ∷ path) ≡ refused k = rw (take-length s, f) in
-    refused-not-ok k p (sym none ∙ e))
+no-tag-followed r n none s small [] path p q e =
+    by-reply (seek r n (p .at) (part s p)) (λ u f. no-tag-sought r n none (p .at) (part s p) (bytes-part s p small) u f) (λ k f.
+    let stopped : follow r s p (n ∷ path) ≡ refused k = rw f in
+    refused-not-ok k q (sym stopped ∙ e))
+no-tag-followed r n none s small (t ∷ before) path p q e =
+    by-reply (seek r t (p .at) (part s p)) (λ u f.
+    let entered : follow r s p (t ∷ (before ++ (n ∷ path))) ≡ follow r s u (before ++ (n ∷ path)) = rw f in
+    no-tag-followed r n none s small before path u q (sym entered ∙ e)) (λ k f.
+    let stopped : follow r s p (t ∷ (before ++ (n ∷ path))) ≡ refused k = rw f in
+    refused-not-ok k q (sym stopped ∙ e))
+
+pub no-tag-found : (r : Reading) (n : ℕ) → NoTag r n → (s before path : List ℕ) → Bytes s → (p : Span)
+    → lookup r s (before ++ (n ∷ path)) ≡ ok p → ⊥
+no-tag-found r n none s before path small p e = no-tag-followed r n none s small before path (wholeRecord s) p e
 
 -- A number above three bytes is no tag.
 pub above-three-bytes : (r : Reading) (n : ℕ) → 0xFFFFFF < n → NoTag r n
