@@ -26,7 +26,8 @@ use Rattle.listing.specs.Input.{pair, items, itemsSize, itemsAt, section
 use Rattle.listing.specs.Text.{decimal, hex, formText, takesNumber, filled, line, headLine}
 use Rattle.listing.specs.Text.{lineNumbers, viewLine, commandLine, objectLine, itemText, itemsText, sectionText, textOf}
 use Rattle.listing.proofs.Decimal.{at-most-five}
-use Rattle.listing.proofs.Sections.{items-counted, items-size-least, bytes-drop, bytes-take}
+use Rattle.basis.proofs.Number.{bytes-drop, bytes-take}
+use Rattle.listing.proofs.Sections.{items-counted, items-size-least}
 use Rattle.listing.proofs.SmallNumbers.{le-few, command-refusal-small, object-refusal-small}
 use Rattle.listing.proofs.LineLaws.{linesFrom, lines-first, lines-stop, lines-next}
 

@@ -3,10 +3,9 @@ use Prim.Native.Nat.{ℕ, zero, suc, _+_, _-_, _*_, _≤_}
 use mathlib.Core.Path.{_≡_, refl, sym, ap, _∙_}
 use mathlib.Core.List.{List, [], _∷_}
 use native.Mathlib.Nat.{add-assoc, add-sub-cancel-left}
-use native.Mathlib.Decide.{decLe}
 use native.Mathlib.Omega.{arith}
-use lib.ListN.{length, getD, take, drop, length-take, List·getD-eq-default}
-use lib.Seq.{getD-take, getD-drop, drop-drop}
+use lib.ListN.{length, getD, take, drop}
+use lib.Seq.{getD-drop, drop-drop}
 use Rattle.basis.specs.Number.{Bytes}
 use Rattle.listing.specs.Input.{pair, items, itemsSize, itemsAt, sectionSize}
 
@@ -63,14 +62,3 @@ pub items-size-least : (n : ℕ) (s : List ℕ) → 2 * n ≤ itemsSize n s
 unfolding itemsSize
 items-size-least zero s = omega arith
 items-size-least (suc n) s = omega (arith, items-size-least n (drop (2 + pair s) s))
-
--- parts of bytes are bytes
-pub bytes-drop : (n : ℕ) (s : List ℕ) → Bytes s → Bytes (drop n s)
-bytes-drop n s h i = omega (arith, h (n + i), getD-drop n s i 0)
-
-pub bytes-take : (n : ℕ) (s : List ℕ) → Bytes s → Bytes (take n s)
-bytes-take n s h i =
-    elim (decLe n i) [
-      | yes p ↦ omega (arith, List·getD-eq-default (take n s) 0 {n = i} (omega (arith, length-take n s)))
-      | no p ↦ omega (arith, h i, getD-take n s i 0 (omega arith))
-    ]

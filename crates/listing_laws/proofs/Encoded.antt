@@ -9,13 +9,13 @@ use lib.ListN.{length, take, drop, length-append, length-drop, take-append-drop,
 use lib.Seq.{take-at, drop-at, drop-drop, length-take-le}
 use borrow.Author.Tests.{le-leb, eq-eqb}
 use Rattle.basis.specs.Number.{Bytes, be}
-use Rattle.basis.proofs.Number.{length-be}
+use Rattle.basis.proofs.Number.{length-be, bytes-drop}
 use Rattle.listing.specs.Ascii.{ascii}
 use Rattle.listing.specs.Input.{pair, items, itemsSize, itemsAt, sectionSize, wellFormed}
 use Rattle.listing.specs.Text.{hexDigit, digits, decimal, formText, takesNumber, filled, line, sectionText, textOf}
 use Rattle.listing.specs.declared.lines.Section.the-variants.{Commands, Records}
 use Rattle.listing.proofs.Longest.{formed-is}
-use Rattle.listing.proofs.Sections.{items-counted, bytes-drop}
+use Rattle.listing.proofs.Sections.{items-counted}
 use Rattle.listing_laws.specs.Encoded.{itemsBytes, sectionBytes, inputBytes}
 
 -- the two bytes of a number, and others after them

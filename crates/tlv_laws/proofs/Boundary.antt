@@ -7,13 +7,13 @@ use mathlib.Core.List.{List, [], _∷_, _++_}
 use native.Mathlib.Nat.{add-zero}
 use native.Mathlib.Omega.{arith}
 use lib.Dec.{leb, eqb}
-use native.Mathlib.Decide.{decLe}
-use lib.ListN.{length, take, drop, length-take, length-drop, length-append, drop-of-length-le, List·getD-eq-default}
-use lib.Seq.{take-length, take-take, take-append-le, drop-append-le, getD-take, getD-drop}
+use lib.ListN.{length, take, drop, length-take, length-drop, length-append, drop-of-length-le}
+use lib.Seq.{take-length, take-take, take-append-le, drop-append-le}
 use borrow.Author.Tests.{eqb-true, eqb-false}
 use Rattle.basis.specs.Number.{Bytes}
 use Rattle.basis.specs.Reply.{Reply, ok, refused, then}
 use Rattle.basis.proofs.Reply.{All, by-reply, refused-not-ok, all-self, all-is, all-cond, all-then, all-every}
+use Rattle.basis.proofs.Number.{bytes-drop, bytes-take}
 use Rattle.basis.proofs.Truth.{on-cond}
 use Rattle.tlv.specs.Tag.{Tag, tagOf}
 use Rattle.tlv.specs.Len.{Len, lenOf}
@@ -141,22 +141,13 @@ no-tag-sought r n none =
     by-objects r (λ a s. Bytes s → (p : Span) → seek r n a s ≡ ok p → ⊥)
     (λ a s k e _ p q. refused-not-ok k p (sym (seek-refused r n a s k e) ∙ q)) (λ a s o e _ further small p q.
     let t = all-is (TagOf r s) (objectOf r s) o (object-tag r s) e in
-    let rest : Bytes (drop (sizeOf o) s) = λ i. omega (arith, small (sizeOf o + i), getD-drop (sizeOf o) s i 0) in
-    further rest p (sym (seek-next r n a s o e (λ h. none s small (t .0) (t .1 .0) (t .1 .1 ∙ h))) ∙ q))
-
--- a part of bytes is bytes
-bytes-part : (s : List ℕ) (p : Span) → Bytes s → Bytes (part s p)
-bytes-part s p h i =
-    elim (decLe (p .len) i) [
-      | yes g ↦ omega (arith, List·getD-eq-default (part s p) 0 {n = i} (omega (arith, length-take (p .len) (drop (p .at) s))))
-      | no g ↦ omega (arith, h (p .at + i), getD-drop (p .at) s i 0, getD-take (p .len) (drop (p .at) s) i 0 (omega arith))
-    ]
+    further (bytes-drop (sizeOf o) s small) p (sym (seek-next r n a s o e (λ h. none s small (t .0) (t .1 .0) (t .1 .1 ∙ h))) ∙ q))
 
 no-tag-followed : (r : Reading) (n : ℕ) → NoTag r n → (s : List ℕ) → Bytes s → (before path : List ℕ) (p q : Span)
     → follow r s p (before ++ (n ∷ path)) ≡ ok q → ⊥
 unfolding follow
 no-tag-followed r n none s small [] path p q e =
-    by-reply (seek r n (p .at) (part s p)) (λ u f. no-tag-sought r n none (p .at) (part s p) (bytes-part s p small) u f) (λ k f.
+    by-reply (seek r n (p .at) (part s p)) (λ u f. no-tag-sought r n none (p .at) (part s p) (bytes-take (p .len) (drop (p .at) s) (bytes-drop (p .at) s small)) u f) (λ k f.
     let stopped : follow r s p (n ∷ path) ≡ refused k = rw f in
     refused-not-ok k q (sym stopped ∙ e))
 no-tag-followed r n none s small (t ∷ before) path p q e =
