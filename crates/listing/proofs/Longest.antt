@@ -21,7 +21,7 @@ use Rattle.tlv.specs.declared.Reading.the-variants.{Crate}
 use Rattle.tlv.proofs.Walk.{by-objects}
 use Rattle.listing.specs.declared.lines.Section.{Section}
 use Rattle.listing.specs.declared.lines.Section.the-variants.{Commands, Records}
-use Rattle.listing.specs.Ascii.{ascii}
+use Rattle.basis.specs.Ascii.{ascii}
 use Rattle.listing.specs.Input.{pair, items, itemsSize, itemsAt, sectionSize, wellFormed}
 use Rattle.listing.specs.Text.{decimal, hex, formText, takesNumber, filled, line, headLine}
 use Rattle.listing.specs.Text.{lineNumbers, viewLine, commandLine, objectLine, itemText, itemsText, sectionText, textOf}

@@ -13,7 +13,7 @@ use Rattle.command.specs.Command.{parse}
 use Rattle.command.specs.declared.CommandView.{CommandView}
 use Rattle.tlv.specs.Walk.{Item, Stop, walk}
 use Rattle.tlv.specs.declared.Reading.the-variants as tlv-reading
-use Rattle.listing.specs.Ascii.{ascii}
+use Rattle.basis.specs.Ascii.{ascii}
 use Rattle.listing.specs.Input.{itemsAt, sectionSize, wellFormed}
 use Rattle.listing.specs.declared.lines.Section.{Section}
 use Rattle.listing.specs.declared.lines.Section.the-variants.{Commands, Records}

@@ -10,7 +10,7 @@ use lib.Seq.{take-at, drop-at, drop-drop, length-take-le}
 use borrow.Author.Tests.{le-leb, eq-eqb}
 use Rattle.basis.specs.Number.{Bytes, be}
 use Rattle.basis.proofs.Number.{length-be, bytes-drop}
-use Rattle.listing.specs.Ascii.{ascii}
+use Rattle.basis.specs.Ascii.{ascii}
 use Rattle.listing.specs.Input.{pair, items, itemsSize, itemsAt, sectionSize, wellFormed}
 use Rattle.listing.specs.Text.{hexDigit, digits, decimal, formText, takesNumber, filled, line, sectionText, textOf}
 use Rattle.listing.specs.declared.lines.Section.the-variants.{Commands, Records}

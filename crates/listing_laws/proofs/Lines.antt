@@ -9,7 +9,7 @@ use Rattle.command.specs.Command.{parse}
 use Rattle.command.specs.declared.CommandView.{CommandView}
 use Rattle.tlv.specs.Object.{objectOf}
 use Rattle.tlv.specs.Tag.{tagOf}
-use Rattle.listing.specs.Ascii.{ascii}
+use Rattle.basis.specs.Ascii.{ascii}
 use Rattle.listing.specs.Text.{hexDigit, hex, decimal, formText, takesNumber, filled, lineNumbers, line, commandLine, objectLines}
 use Rattle.listing.proofs.LineLaws.{refused-line, view-line, lines-first, lines-end}
 use Rattle.listing_laws.specs.Lines.{commandWords}

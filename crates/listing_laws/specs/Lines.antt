@@ -3,7 +3,7 @@ use Prim.Native.Nat.{ℕ}
 use mathlib.Core.Bool.{Bool, true, false}
 use mathlib.Core.List.{List, _++_}
 use Rattle.command.specs.declared.CommandView.{CommandView}
-use Rattle.listing.specs.Ascii.{ascii}
+use Rattle.basis.specs.Ascii.{ascii}
 use Rattle.listing.specs.Text.{hex, decimal}
 
 -- the last word: `extended` or `short`

@@ -11,7 +11,7 @@ fn show_value(value: &[u8], expected: &[u8]) -> usize {
     if check::same(expected, b"accepted") {
         return report::word(expected, 0, b"accepted");
     }
-    report::hex(expected, value)
+    report::hex(expected, 0, value)
 }
 
 // Prints what a lookup finds.

@@ -39,8 +39,8 @@ fn byte(expected: &[u8], at: usize, b: u8) -> usize {
 }
 
 // Prints bytes, each in two hexadecimal digits.
-pub(crate) fn hex(expected: &[u8], shown: &[u8]) -> usize {
-    let mut at = 0;
+pub(crate) fn hex(expected: &[u8], start: usize, shown: &[u8]) -> usize {
+    let mut at = start;
     let mut i = 0;
     while i < shown.len() {
         at = byte(expected, at, shown[i]);

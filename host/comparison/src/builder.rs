@@ -13,12 +13,13 @@ use std::hint::black_box;
 
 use gorvisclen::{EXPECTED_MAX, EXTENDED_FORCED, EXTENDED_SUPPORTED};
 
-pub use self::benchmark::bench;
-pub use self::field_values::{random_expected_len, random_mode};
-use self::field_values::{
-    random_header, DATA_LENGTHS, EXPECTED_LENGTHS, HEADERS, MODES, REFUSED_COMMANDS, TOO_LONG_LENGTHS,
+pub use self::benchmark::{bench, write_built};
+use self::field_values::REFUSED_COMMANDS;
+pub use self::field_values::{
+    random_expected_len, random_header, random_mode, DATA_LENGTHS, EXPECTED_LENGTHS, HEADERS, MODES, TOO_LONG_LENGTHS,
 };
 pub use self::input::{bytes_of, expected_number, unless_too_long, Builder, BuilderInput};
+pub use self::operations::written_by_rust;
 use self::operations::{equals, force_extended, read_back, required_len, serialize_into};
 use crate::call::Call;
 use crate::lent::places_past;

@@ -27,6 +27,7 @@ mod branches;
 mod builder;
 mod call;
 mod class;
+mod collect;
 mod command;
 mod hex;
 mod jobs;
@@ -36,6 +37,7 @@ mod panics;
 mod random;
 mod reassembler;
 mod recording;
+mod response;
 mod splitter;
 mod tally;
 mod tlv;
@@ -49,18 +51,20 @@ use crate::recording::Recording;
 use crate::tally::Tally;
 
 /// The jobs of the short run. Those that take longest are first.
-const SHORT_RUN: [Job; 7] = [
+const SHORT_RUN: [Job; 9] = [
     tlv::compare,
     splitter::compare,
     builder::compare,
     command::compare,
     reassembler::compare,
+    collect::compare,
+    response::compare,
     aid::compare,
     class::compare,
 ];
 
 /// The kinds of random cases. There are equally many of each kind.
-const RANDOM_KINDS: [(&str, Job); 9] = [
+const RANDOM_KINDS: [(&str, Job); 11] = [
     ("class and AID", class_and_aid),
     ("command, parsed and owned", command::random_cases),
     ("command, extended", command::random_extensions),
@@ -70,6 +74,8 @@ const RANDOM_KINDS: [(&str, Job); 9] = [
     ("command, one step of splitting", splitter::random_step),
     ("command, cut into a chain", splitter::random_chain),
     ("pieces, joined", reassembler::random_cases),
+    ("responses", response::random_cases),
+    ("responses, collected", collect::random_cases),
 ];
 
 /// The jobs that are recorded, and how often each is run.
@@ -91,8 +97,17 @@ const RECORDED: [(usize, Job); 14] = [
 ];
 
 /// What is timed, in the order of the lines.
-const TIMED: [fn(&mut Table); 7] =
-    [class::bench, aid::bench, command::bench, builder::bench, splitter::bench, reassembler::bench, tlv::bench];
+const TIMED: [fn(&mut Table); 9] = [
+    class::bench,
+    aid::bench,
+    command::bench,
+    builder::bench,
+    splitter::bench,
+    reassembler::bench,
+    response::bench,
+    collect::bench,
+    tlv::bench,
+];
 
 fn class_and_aid(tally: &mut Tally, random: &mut Random) {
     class::random_cases(tally, random);

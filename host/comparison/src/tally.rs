@@ -16,11 +16,12 @@ static MISMATCHES: AtomicU64 = AtomicU64::new(0);
 pub type Labels = (&'static str, &'static [&'static str]);
 
 /// Words in the label of an operation that the Rust does not have, and a name for what it is compared with instead.
-const OTHER_REFERENCES: [(&str, &str); 4] = [
+const OTHER_REFERENCES: [(&str, &str); 5] = [
     ("checked against a table", "table"),
     ("checked against a rule", "rule"),
     ("checked against a model", "model"),
     ("checked against document 01", "document 01"),
+    ("checked against document 02", "document 02"),
 ];
 
 /// The cases of one label: how many they are, and how many of them must get each reply.

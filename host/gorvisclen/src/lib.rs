@@ -23,6 +23,8 @@
 //! | 18 | the held data and the new data together exceed the room |
 //! | 19 | the value to write is above 65,535 bytes |
 //! | 21 | standard reading: the command has an extended Lc of zero and an Le |
+//! | 22 | the response is under two bytes |
+//! | 23 | the collected data and the new data together exceed the room |
 //!
 //! If several apply, the smallest is replied. But 2 comes after 3, 4 and 5, and 16 comes after 19 when an object is
 //! written.
@@ -30,8 +32,10 @@
 mod aid;
 mod builder;
 mod class;
+mod collect;
 mod command;
 mod reassembler;
+mod response;
 mod splitter;
 mod tlv;
 
@@ -41,8 +45,13 @@ pub use builder::{
     SHORT_ONLY,
 };
 pub use class::{class, class_as_chained, class_constants, range, CLASS_CONSTANTS, CLASS_NUMBERS};
+pub use collect::{collect_start, collected, Collection, COLLECTION_NUMBERS, COLLECT_NUMBERS, COMMAND, GET_RESPONSE};
 pub use command::{command, command_data, command_extend, command_owned, COMMAND_NUMBERS, OWNED_NUMBERS};
 pub use reassembler::{joined_data, Reassembler, JOIN_NUMBERS, STATE_NUMBERS};
+pub use response::{
+    response_append, response_data, response_split, status, status_name, CHECKING_ERROR, EXECUTION_ERROR, LISTED_WORDS,
+    NORMAL, RESPONSE_NUMBERS, STATUS_NUMBERS, UNKNOWN, WARNING,
+};
 pub use splitter::{should_split, Pieces, BUFFER_LEN, PIECE_NUMBERS, SPLIT_NUMBERS};
 pub use tlv::{
     get_data_object, put_data_object, take_data_object, take_len, take_tag, value, LEN_NUMBERS, LOOKUP_NUMBERS,
@@ -56,7 +65,7 @@ pub struct Refused(pub u8);
 /// What an exported function replies.
 pub type Reply = Result<(), Refused>;
 
-/// The number that means "there is none", instead of a channel or the length of a part.
+/// The number that means "there is none", instead of a channel, the length of a part, or a place in a table.
 pub const NONE: u64 = 256;
 
 /// The reading of commands and BER records that the Rust crate has.

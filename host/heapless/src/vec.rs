@@ -41,6 +41,11 @@ impl<T: Copy + Default, LenT: LenType, const N: usize> Vec<T, N, LenT> {
     pub fn new() -> Self {
         Self { len: LenT::ZERO, storage: OwnedVecStorage([T::default(); N]), element: PhantomData }
     }
+
+    /// As in heapless: a copy of the slice, or an error if it is longer than the capacity.
+    pub fn from_slice(slice: &[T]) -> Result<Self, CapacityError> {
+        Self::try_from(slice)
+    }
 }
 
 impl<T: Copy, LenT: LenType, S: VecStorage<T>> VecInner<T, LenT, S> {

@@ -35,8 +35,9 @@ const MODES: [(u8, &str); 2] = [(EXTENDED_SUPPORTED, "supported"), (EXTENDED_FOR
 /// The most bytes that a command takes.
 const LONGEST: usize = 4 + 3 + 65_535 + 2;
 
+/// Writes the command of a builder, which is made before the calls.
 #[inline(never)]
-fn write_built(builder: &Builder, buffer: &mut [u8], out: &mut [u64]) -> u8 {
+pub fn write_built(builder: &Builder, buffer: &mut [u8], out: &mut [u64]) -> u8 {
     let len = buffer.len();
     let mut rest = buffer;
     if builder.serialize_into(&mut rest).is_err() {

@@ -4,7 +4,7 @@ use gorvisclen::{COMMAND_NUMBERS, CRATE_READING, EXTENDED_FORCED, SHORT_ONLY, ST
 use original_private::command::CommandView;
 
 use super::input::BuilderInput;
-use crate::answer::Writes;
+use crate::answer::{Answer, Writes};
 use crate::call::{call, Call};
 use crate::command::parse_by_rust;
 use crate::hex::Hex;
@@ -103,7 +103,20 @@ pub fn equals<'a>(input: BuilderInput<'a>, apdu: &'a [u8]) -> impl Call<1> + 'a 
     .recorded_as(Operation::BuilderEq)
 }
 
-/// A command written into a buffer from a place. The Rust writes to the part of the buffer from this place on.
+/// A command that the Rust writes into a buffer from a place: to the part of the buffer from this place on.
+pub fn written_by_rust(input: &BuilderInput, at: usize, to_len: usize) -> Answer<'static, 1> {
+    let builder = input.rust_builder()?;
+    let mut written = vec![0; to_len.checked_sub(at).ok_or(16)?];
+    let mut rest = &mut written[..];
+    builder.serialize_into(&mut rest).map_err(|_| 16)?;
+    let n = to_len - at - rest.len();
+    assert_eq!(n, builder.required_len());
+    written.truncate(n);
+    input.checked(&written, &input.bytes());
+    Ok(Writes::new([n as u64], at, written))
+}
+
+/// A command written into a buffer from a place.
 pub fn serialize_into(input: BuilderInput<'_>, at: usize) -> impl Call<1> + '_ {
     call(
         (input.label(labels!("CommandBuilder::serialize_into")), &[]),
@@ -111,17 +124,7 @@ pub fn serialize_into(input: BuilderInput<'_>, at: usize) -> impl Call<1> + '_ {
         |&(BuilderInput { header, le, mode, data }, at), to, out| {
             gorvisclen::serialize_into(header, le, mode, data, to, at, out)
         },
-        |&(input, at), to_len| {
-            let builder = input.rust_builder()?;
-            let mut written = vec![0; to_len.checked_sub(at).ok_or(16)?];
-            let mut rest = &mut written[..];
-            builder.serialize_into(&mut rest).map_err(|_| 16)?;
-            let n = to_len - at - rest.len();
-            assert_eq!(n, builder.required_len());
-            written.truncate(n);
-            input.checked(&written, &input.bytes());
-            Ok(Writes::new([n as u64], at, written))
-        },
+        |(input, at), to_len| written_by_rust(input, *at, to_len),
     )
     .labelled_by(|(input, at), to_len, _| {
         let past = *at > to_len && input.data.len() <= 65_535;

@@ -6,10 +6,10 @@ use Rattle.vectors.proofs.report.hex.Statement.{statement}
 use Rattle.vectors.proofs.report.hex.Tie as tie
 
 abbrev Inv-loop : tie.InvT-loop
-Inv-loop expected shown at₀ i₀ at i = Unit {0}
+Inv-loop expected start shown at₀ i₀ at i = Unit {0}
 
 abbrev μ-loop : tie.MeasureT-loop
-μ-loop expected shown at₀ i₀ at i = length shown - i
+μ-loop expected start shown at₀ i₀ at i = length shown - i
 
 pub hex-spec : {M : Type 1} → statement M
 hex-spec =

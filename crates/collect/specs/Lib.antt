@@ -1,0 +1,2 @@
+-- The definitions of a collection: Collect, what each response comes to.
+pub mod Collect
