@@ -11,10 +11,12 @@ use Rattle.command.specs.declared.owned.Command.{Command}
 use Rattle.builder.specs.declared.ExpectedLen.{ExpectedLen}
 use Rattle.builder.specs.declared.ExtendedLen.{ExtendedLen}
 use Rattle.builder.specs.declared.Built.{Built}
+use Rattle.builder.specs.declared.CommandBuilder.{CommandBuilder}
 use Rattle.builder.proofs.OneReply.{new}
 use Rattle.abi.specs.Answers.{NumbersWritten, unlessRefused, BytesCopied, ReplyCopied, refusal-status-is, usable-len-is, flag-is}
 use Rattle.abi.specs.Readings.{class-reading-by-number-is, tlv-reading-by-number-is}
-use Rattle.abi.specs.Builders.{expectedLenByNumber, modeByNumber, builderByNumbers, expected-len-by-number-is, mode-by-number-is, builder-by-numbers-is}
+use Rattle.abi.specs.Builders.{expectedLenByNumber, modeByNumber, builderByNumbers, expected-len-by-number-is, expected-len-number-is, mode-by-number-is, builder-by-numbers-is}
+use Rattle.abi.specs.Serialized.{Serialized}
 use Rattle.abi.specs.Commands.{command-numbers-is, command-of-length-is}
 
 -- two answers that write the m numbers of one reply are equal
@@ -44,6 +46,11 @@ pub copy-bytes : (d to out : List ℕ) (r s : ℕ) (a b u v : List ℕ) → Byte
     → (r ≡ s) × (a ≡ b) × (u ≡ v)
 copy-bytes d = one-copy (ok d)
 
+-- two answers that write the command of one builder are equal
+pub one-serialized : (x : Reply CommandBuilder) (d : List ℕ) (at : ℕ) (buffer out : List ℕ) (r s : ℕ) (a b u v : List ℕ)
+    → Serialized x d at buffer out r a u → Serialized x d at buffer out s b v → (r ≡ s) × (a ≡ b) × (u ≡ v)
+one-serialized x d at buffer out r s a b u v p q = (p .reply ∙⁻¹ q .reply, p .bytes ∙⁻¹ q .bytes, p .row ∙⁻¹ q .row)
+
 pub refusal-status : (k n m r s : ℕ) → refusal-status-is k n m r → refusal-status-is k n m s → r ≡ s
 refusal-status k n m r s p q = p ∙⁻¹ q
 
@@ -61,6 +68,9 @@ tlv-reading-by-number n r s p q = p ∙⁻¹ q
 
 pub expected-len-by-number : (e : ℕ) (x y : ExpectedLen) → expected-len-by-number-is e x → expected-len-by-number-is e y → x ≡ y
 expected-len-by-number e x y g h = g ∙⁻¹ h
+
+pub expected-len-number : (x : ExpectedLen) (m n : ℕ) → expected-len-number-is x m → expected-len-number-is x n → m ≡ n
+expected-len-number x m n g h = g ∙⁻¹ h
 
 pub mode-by-number : (m : ℕ) (x y : ExtendedLen) → mode-by-number-is m x → mode-by-number-is m y → x ≡ y
 mode-by-number m x y g h = g ∙⁻¹ h

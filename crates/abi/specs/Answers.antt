@@ -40,6 +40,12 @@ abbrev pub outAfter : Reply (List ℕ) → List ℕ → List ℕ
 outAfter (ok vs) out = over vs out
 outAfter (refused k) out = out
 
+-- a room after a reply: as the operation left it; a refusal leaves it as it was, also 16 for a row that is too short
+-- (rule 1.25)
+abbrev pub roomAfter : Reply (List ℕ) → List ℕ → List ℕ → List ℕ
+roomAfter (ok vs) after room = after
+roomAfter (refused k) after room = room
+
 -- the promise of a function that writes the m numbers of a reply to the row
 pub record NumbersWritten (m : ℕ) (x : Reply (List ℕ)) (out : List ℕ) (r : ℕ) (after : List ℕ) : Type 0 where
   pub reply : r ≡ status (ifLongEnough m (length out) x)

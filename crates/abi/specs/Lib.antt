@@ -2,4 +2,5 @@
 pub mod Answers
 pub mod Readings
 pub mod Builders
+pub mod Serialized
 pub mod Commands

@@ -13,6 +13,7 @@ pub use answers::write_numbers;
 pub use answers::write_unless_refused;
 pub use builders::builder_by_numbers;
 pub use builders::expected_len_by_number;
+pub use builders::expected_len_number;
 pub use builders::mode_by_number;
 pub use commands::command_numbers;
 pub use commands::command_of_length;

@@ -1,5 +1,3 @@
--- What the host is given of a builder (Numbers), the steps between, for the private functions (Steps), and what writing
--- a command leaves in the slices that a host lends (Serialized).
+-- What the host is given of a builder (Numbers), and the steps between, for the private functions (Steps).
 pub mod Numbers
 pub mod Steps
-pub mod Serialized

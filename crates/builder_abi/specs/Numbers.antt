@@ -1,4 +1,5 @@
--- The numbers that are written for the host, of a builder given by numbers. Rules 3.2, 3.10, 11.11 and 12.6.
+-- The numbers that are written for the host, of a builder given by numbers, and its command. Rules 3.2, 3.9, 3.10, 11.11
+-- and 12.6.
 use Prim.Native.Nat.{ℕ}
 use mathlib.Core.Bool.{cond}
 use mathlib.Core.List.{List, [], _∷_}
@@ -9,6 +10,7 @@ use Rattle.class.specs.declared.Reading.the-variants.{Crate}
 use Rattle.command.specs.Command.{parse, dataIn}
 use Rattle.abi.specs.Answers.{flagOf}
 use Rattle.abi.specs.Builders.{builderByNumbers}
+use Rattle.abi.specs.Serialized.{Serialized}
 use Rattle.builder.specs.Builder.{forcedOf}
 use Rattle.builder.specs.Bytes.{requiredLen}
 use Rattle.builder_compare.specs.Compare.{equalTo}
@@ -36,3 +38,8 @@ withBoth x (refused j) f = refused (smaller x j)
 unfoldable pub builderEqReply : ℕ → ℕ → ℕ → ℕ → ℕ → ℕ → List ℕ → List ℕ → Reply (List ℕ)
 builderEqReply c i p q e m d s =
     withBoth (builderByNumbers c i p q e m d) (parse Crate s) (λ b v. ok (flagOf (equalTo b d v (dataIn s (parse Crate s))) ∷ []))
+
+-- the promise of `gorvisclen_serialize_into`: its command with the data d (rule 3.9)
+abbrev pub CommandWritten : ℕ → ℕ → ℕ → ℕ → ℕ → ℕ → List ℕ → ℕ → List ℕ → List ℕ → ℕ → List ℕ → List ℕ → Type 0
+CommandWritten c i p q e m d at buffer out r buffer′ out′ =
+    Serialized (builderByNumbers c i p q e m d) d at buffer out r buffer′ out′

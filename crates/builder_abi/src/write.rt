@@ -2,8 +2,8 @@
 ghost use Prim.Native.Nat.{_≤_};
 ghost use lib.ListN.{length};
 ghost use Rattle.basis.specs.Reply.{ok};
-ghost use Rattle.abi.specs.Builders.{builderByNumbers};
-ghost use Rattle.builder_abi.specs.Serialized.{Serialized};
+ghost use Rattle.abi.specs.Serialized.{Serialized};
+ghost use Rattle.builder_abi.specs.Numbers.{CommandWritten};
 use abi::builder_by_numbers;
 use abi::refusal_status;
 use builder::Built;
@@ -39,8 +39,8 @@ pub extern "C" fn gorvisclen_serialize_into(
     at: usize,
     out: &mut [u64],
 ) -> u8
-    ensures { λ r. ⌜ Serialized (builderByNumbers class instruction p1 p2 le mode (now («data» .entry))) (now («data» .entry)) at
-        (now (buffer .entry)) (now (out .entry)) r (now (buffer .exit)) (now (out .exit)) ⌝ }
+    ensures { λ r. ⌜ CommandWritten class instruction p1 p2 le mode (now («data» .entry)) at (now (buffer .entry)) (now (out .entry)) r
+        (now (buffer .exit)) (now (out .exit)) ⌝ }
 {
     match builder_by_numbers(class, instruction, p1, p2, le, mode, data) {
         Built::Refused(k) => refusal_status(k, out.len(), 1),

@@ -1,27 +1,28 @@
--- What starting, taking a response and copying the data leave in the lent slices, case by case.
+-- What starting, taking a response and copying the data leave in the lent slices, case by case; and what is to be sent,
+-- as the command of a builder.
 use Prim.Native.Nat.{ℕ, _≤_, _<_}
 use mathlib.Core.Path.{_≡_, refl, sym, ap, _∙_, subst}
+use mathlib.Core.Bool.{Bool, true, false, cond}
 use mathlib.Core.List.{List, [], _∷_}
 use native.Mathlib.Omega.{arith}
 use borrow.Author.Tests.{lt-ltb, le-ltb}
+use lib.Dec.{eqb}
 use lib.ListN.{length, take, getD}
 use Rattle.basis.specs.Reply.{Reply, ok, refused, then}
-use Rattle.builder.specs.Builder.{asReply as builtAsReply}
+use Rattle.builder.specs.Bytes.{serialize-into-is}
 use Rattle.builder.specs.declared.CommandBuilder.{CommandBuilder}
-use Rattle.builder.specs.declared.Built.{Built}
-use Rattle.builder.specs.declared.Built.the-variants as built
-use Rattle.collect.specs.Collect.{Going, stepOf, stepRoom, asReply, start-is, step-is}
+use Rattle.builder.specs.declared.sizes.Length.{Length}
+use Rattle.collect.specs.Collect.{Going, stepOf, stepRoom, asReply, start-is, step-is, write-is}
 use Rattle.collect.specs.declared.Sent.{Sent}
 use Rattle.collect.specs.declared.Sent.the-variants.{Command, GetResponse}
 use Rattle.collect.specs.declared.Collection.{Collection}
 use Rattle.collect.specs.declared.Step.{Step}
 use Rattle.collect.proofs.Steps.{From22, from-22, refused-kept}
-use Rattle.abi.specs.Answers.{tooShort, refusal-status-is, NumbersWritten, BytesCopied}
-use Rattle.abi.specs.Builders.{builderByNumbers, builder-by-numbers-is}
+use Rattle.abi.specs.Answers.{tooShort, roomAfter, refusal-status-is, NumbersWritten, BytesCopied}
+use Rattle.abi.specs.Builders.{builderByNumbers}
 use Rattle.abi.proofs.AnswerLaws.{refusal-fitted, refusal-written}
 use Rattle.collect_abi.specs.Numbers.{builderNumbers, sentNumbers, stateNumbers, dataByKind, sentByKind}
-use Rattle.collect_abi.specs.Numbers.{sentByNumbers, stateByNumbers, sendingNumbers, steppedReply, roomAfter}
-use Rattle.collect_abi.specs.Numbers.{ResponseTaken, CollectedData}
+use Rattle.collect_abi.specs.Numbers.{stateByNumbers, sendingNumbers, steppedReply, ResponseTaken, CollectedData}
 
 -- a state has eight numbers, and an answer that goes on twelve
 eight-by : (s : Sent) (n : ℕ) → length (sentNumbers s n) ≡ 8
@@ -64,28 +65,29 @@ pub sending-row : (c : Collection) (vs : List ℕ) → vs ≡ stateNumbers c
 unfolding sendingNumbers
 sending-row c vs e = rw e (ap (λ (l : List ℕ). 0 ∷ 0 ∷ 0 ∷ 0 ∷ l) (row-by (c .sent) (c .len)))
 
--- what was sent, by numbers: the code has made x of the data t that go with the kind
-module _ (k c i p q e m : ℕ) (d t : List ℕ) (x : Built) (f : t ≡ dataByKind k d) (g : builder-by-numbers-is c i p q e m t x) where
-  by-numbers : builderByNumbers c i p q e m (dataByKind k d) ≡ builtAsReply x
-  by-numbers = sym (g ∙ ap (builderByNumbers c i p q e m) f)
-
-  pub not-made : (j : ℕ) → x ≡ built.Refused j → refused j ≡ sentByNumbers k c i p q e m d
-  unfolding sentByNumbers
-  not-made j h = rw (by-numbers ∙ ap builtAsReply h)
-
-  pub made : (b : CommandBuilder) (s : Sent) → x ≡ built.Builder b → s ≡ sentByKind k b → ok s ≡ sentByNumbers k c i p q e m d
-  unfolding sentByNumbers
-  made b s h n = rw (by-numbers ∙ ap builtAsReply h) (ap ok n)
-
--- the state by numbers, from what was sent
+-- the state by numbers, from a builder without data
 module _ (k c i p q e m n : ℕ) where
-  pub state-refused : (j : ℕ) → sentByNumbers k c i p q e m [] ≡ refused j → stateByNumbers k c i p q e m n ≡ refused j
+  pub state-refused : (j : ℕ) → builderByNumbers c i p q e m [] ≡ refused j → stateByNumbers k c i p q e m n ≡ refused j
   unfolding stateByNumbers
   state-refused j f = rw f
 
-  pub state-is : (s : Sent) → sentByNumbers k c i p q e m [] ≡ ok s → stateByNumbers k c i p q e m n ≡ ok (record { sent = s; len = n })
+  pub state-is : (b : CommandBuilder) (s : Sent) → builderByNumbers c i p q e m [] ≡ ok b → s ≡ sentByKind k b
+      → stateByNumbers k c i p q e m n ≡ ok (record { sent = s; len = n })
   unfolding stateByNumbers
-  state-is s f = rw f
+  state-is b s f g = rw f (ap (λ s. ok (record { sent = s; len = n })) (sym g))
+
+-- what is to be sent is written as the command of its builder, with the data that go with its kind
+serialized-by : (w : Bool) (b : CommandBuilder) (d l : List ℕ) (at : ℕ) (y : Length) (after : List ℕ)
+    → write-is (record { sent = cond w (Command b) (GetResponse b); len = 0 }) d l at y after
+    → serialize-into-is b (cond w d []) l at y after
+serialized-by true b d l at y after h = h
+serialized-by false b d l at y after h = h
+
+pub sent-serialized : (k : ℕ) (b : CommandBuilder) (s : Sent) (d l : List ℕ) (at : ℕ) (y : Length) (after : List ℕ)
+    → s ≡ sentByKind k b → write-is (record { sent = s; len = 0 }) d l at y after
+    → serialize-into-is b (dataByKind k d) l at y after
+sent-serialized k b s d l at y after e h =
+    serialized-by (eqb k 0) b d l at y after (subst (λ s. write-is (record { sent = s; len = 0 }) d l at y after) e h)
 
 -- 16 is a smaller number than 22 and 23 (rule 1.22)
 short-16 : (x : Reply Going) → From22 x → tooShort (steppedReply x) ≡ refused 16

@@ -6,19 +6,18 @@ use mathlib.Core.Bool.{cond}
 use mathlib.Core.List.{List, [], _∷_}
 use lib.Dec.{eqb}
 use lib.ListN.{length, take}
-use Rattle.basis.specs.Reply.{Reply, ok, refused, then, status}
-use Rattle.builder.specs.Bytes.{leNumber, serializeOf, bufferAfter}
+use Rattle.basis.specs.Reply.{Reply, ok, refused, then}
+use Rattle.builder.specs.Bytes.{leNumber}
 use Rattle.builder.specs.declared.CommandBuilder.{CommandBuilder}
 use Rattle.builder.specs.declared.ExtendedLen.{ExtendedLen}
 use Rattle.builder.specs.declared.ExtendedLen.the-variants.{Unsupported, Supported, Forced}
-use Rattle.collect.specs.Collect.{builderOf, dataSent, Going, send, done, stepOf, stepRoom}
+use Rattle.collect.specs.Collect.{Going, send, done, stepOf, stepRoom}
 use Rattle.collect.specs.declared.Sent.{Sent}
 use Rattle.collect.specs.declared.Sent.the-variants.{Command, GetResponse}
 use Rattle.collect.specs.declared.Collection.{Collection}
-use Rattle.abi.specs.Answers.{ifLongEnough, outAfter, NumbersWritten, BytesCopied}
+use Rattle.abi.specs.Answers.{ifLongEnough, roomAfter, NumbersWritten, BytesCopied}
 use Rattle.abi.specs.Builders.{builderByNumbers}
-use Rattle.collect_abi.specs.declared.Numbered.{Numbered}
-use Rattle.collect_abi.specs.declared.Numbered.the-variants as numbered
+use Rattle.abi.specs.Serialized.{Serialized}
 
 -- the number of a mode, as the host gives it
 abbrev pub modeNumber : ExtendedLen → ℕ
@@ -53,18 +52,10 @@ dataByKind k d = cond (eqb k 0) d []
 abbrev pub sentByKind : ℕ → CommandBuilder → Sent
 sentByKind k b = cond (eqb k 0) (Command b) (GetResponse b)
 
--- what was sent, by the numbers of a state: refused with 3, and with a command's data d with 13
-unfoldable pub sentByNumbers : ℕ → ℕ → ℕ → ℕ → ℕ → ℕ → ℕ → List ℕ → Reply Sent
-sentByNumbers k c i p q e m d = then (builderByNumbers c i p q e m (dataByKind k d)) (λ b. ok (sentByKind k b))
-
--- the answer of the code as a reply
-abbrev pub sentAsReply : Numbered → Reply Sent
-sentAsReply (numbered.Sent s) = ok s
-sentAsReply (numbered.Refused k) = refused k
-
--- the state that eight numbers stand for; it needs no data
+-- the state that eight numbers stand for: refused with 3. It needs no data
 unfoldable pub stateByNumbers : ℕ → ℕ → ℕ → ℕ → ℕ → ℕ → ℕ → ℕ → Reply Collection
-stateByNumbers k c i p q e m n = then (sentByNumbers k c i p q e m []) (λ s. ok (record { sent = s; len = n }))
+stateByNumbers k c i p q e m n =
+    then (builderByNumbers c i p q e m []) (λ b. ok (record { sent = sentByKind k b; len = n }))
 
 -- the numbers of an answer that goes on: four zeros, and those of the state
 unfoldable pub sendingNumbers : Collection → List ℕ
@@ -87,31 +78,16 @@ abbrev pub roomBy : Reply Collection → List ℕ → List ℕ → List ℕ
 roomBy (ok c) s room = stepRoom c s room
 roomBy (refused k) s room = room
 
--- a refusal leaves the room, also the refusal 16 of a slice that is too short for the numbers (rule 1.25)
-abbrev pub roomAfter : Reply (List ℕ) → List ℕ → List ℕ → List ℕ
-roomAfter (ok vs) after room = after
-roomAfter (refused k) after room = room
-
 -- the promise of `gorvisclen_collect_step`, for the state x (rules 14.2 to 14.6)
 pub record ResponseTaken (x : Reply Collection) (s room out : List ℕ) (r : ℕ) (room′ out′ : List ℕ) : Type 0 where
   pub says : NumbersWritten 12 (steppedBy x s (length room)) out r out′
   pub bytes : room′ ≡ roomAfter (ifLongEnough 12 (length out) (steppedBy x s (length room))) (roomBy x s room) room
 
--- what was sent, with the data d, written from a place of a buffer of m bytes, and its length in a slice of n numbers
-abbrev pub writing : Reply Sent → List ℕ → ℕ → ℕ → ℕ → Reply ℕ
-writing x d at m n = ifLongEnough 1 n (then x (λ s. serializeOf (builderOf s) (dataSent s d) m at))
-
--- the buffer after it: a refusal changes nothing
-abbrev pub bufferBy : Reply Sent → Reply ℕ → List ℕ → List ℕ → ℕ → List ℕ
-bufferBy (ok s) y d buffer at = bufferAfter y (builderOf s) (dataSent s d) buffer at
-bufferBy (refused k) y d buffer at = buffer
-
--- the promise of `gorvisclen_collect_write`, for what was sent (rule 14.7)
-pub record SentWritten (x : Reply Sent) (d : List ℕ) (at : ℕ) (buffer out : List ℕ) (r : ℕ) (buffer′ out′ : List ℕ)
-    : Type 0 where
-  pub reply : r ≡ status (writing x d at (length buffer) (length out))
-  pub bytes : buffer′ ≡ bufferBy x (writing x d at (length buffer) (length out)) d buffer at
-  pub row : out′ ≡ outAfter (then (writing x d at (length buffer) (length out)) (λ n. ok (n ∷ []))) out
+-- the promise of `gorvisclen_collect_write`: the command of the builder that the numbers stand for, with the data that
+-- go with the kind (rule 14.7)
+abbrev pub SentWritten : ℕ → ℕ → ℕ → ℕ → ℕ → ℕ → ℕ → List ℕ → ℕ → List ℕ → List ℕ → ℕ → List ℕ → List ℕ → Type 0
+SentWritten k c i p q e m d at buffer out r buffer′ out′ =
+    Serialized (builderByNumbers c i p q e m (dataByKind k d)) (dataByKind k d) at buffer out r buffer′ out′
 
 -- the promise of `gorvisclen_collected`: the first n bytes of the room (all if it has fewer), copied and counted (rule
 -- 14.8)

@@ -6,17 +6,17 @@ ghost use mathlib.Core.Path.{_≡_};
 ghost use lib.ListN.{length};
 ghost use Rattle.basis.specs.Reply.{ok};
 ghost use Rattle.abi.specs.Answers.{NumbersWritten};
-ghost use Rattle.builder.specs.Bytes.{leNumber};
+ghost use Rattle.abi.specs.Serialized.{Serialized};
 ghost use Rattle.collect.specs.Collect.{asReply};
 ghost use Rattle.collect_abi.specs.Numbers.{modeNumber, builderNumbers, stateNumbers, sendingNumbers, startReply};
-ghost use Rattle.collect_abi.specs.Numbers.{dataByKind, sentByKind, sentAsReply, sentByNumbers, stateByNumbers};
+ghost use Rattle.collect_abi.specs.Numbers.{dataByKind, sentByKind, stateByNumbers};
 ghost use Rattle.collect_abi.specs.Numbers.{steppedReply, ResponseTaken, SentWritten, CollectedData};
 use abi::builder_by_numbers;
+use abi::expected_len_number;
 use abi::refusal_status;
 use abi::write_numbers;
 use builder::Built;
 use builder::CommandBuilder;
-use builder::ExpectedLen;
 use builder::ExtendedLen;
 use builder::Length;
 use collect::Collection;
@@ -24,22 +24,6 @@ use collect::Sent;
 use collect::Step;
 use response::Response;
 use response::Status;
-
-// What was sent, given as numbers, or a refusal.
-enum Numbered {
-    Sent(Sent),
-    Refused(u8),
-}
-
-// The number of an expected length: 65,536 for Max.
-fn expected_number(le: ExpectedLen) -> u64
-    ensures { λ r. ⌜ r ≡ leNumber le ⌝ }
-{
-    match le {
-        ExpectedLen::Ne(n) => n as u64,
-        ExpectedLen::Max => 65536,
-    }
-}
 
 // The number of a mode: 0 short only, 1 extended supported, 2 extended forced.
 fn mode_number(mode: ExtendedLen) -> u64
@@ -65,7 +49,7 @@ fn builder_numbers(kind: u64, builder: CommandBuilder, held: usize) -> [u64; 8]
         builder.instruction as u64,
         builder.p1 as u64,
         builder.p2 as u64,
-        expected_number(le),
+        expected_len_number(le),
         mode_number(mode),
         held as u64,
     ]
@@ -127,33 +111,6 @@ fn sent_by_kind(kind: u8, builder: CommandBuilder) -> Sent
     Sent::GetResponse(builder)
 }
 
-// What was sent, by the numbers of a state: 3, and with a command's data 13.
-fn sent_by_numbers(
-    kind: u8,
-    class: u8,
-    instruction: u8,
-    p1: u8,
-    p2: u8,
-    le: u32,
-    mode: u8,
-    data: &[u8],
-) -> Numbered
-    ensures { λ r. ⌜ sentAsReply r ≡ sentByNumbers kind class instruction p1 p2 le mode (now («data» .entry)) ⌝ }
-{
-    match builder_by_numbers(
-        class,
-        instruction,
-        p1,
-        p2,
-        le,
-        mode,
-        data_by_kind(kind, data),
-    ) {
-        Built::Refused(k) => Numbered::Refused(k),
-        Built::Builder(builder) => Numbered::Sent(sent_by_kind(kind, builder)),
-    }
-}
-
 // The twelve numbers of an answer that goes on: four zeros, and the eight of the state.
 fn sending_numbers(state: Collection) -> [u64; 12]
     ensures { λ r. ⌜ r ≡ sendingNumbers state ⌝ }
@@ -213,12 +170,13 @@ pub extern "C" fn gorvisclen_collect_step(
     ensures { λ r. ⌜ ResponseTaken (stateByNumbers kind class instruction p1 p2 le mode held) (now (response .entry))
         (now (room .entry)) (now (out .entry)) r (now (room .exit)) (now (out .exit)) ⌝ }
 {
-    match sent_by_numbers(kind, class, instruction, p1, p2, le, mode, &response[..0]) {
-        Numbered::Refused(k) => refusal_status(k, out.len(), 12),
-        Numbered::Sent(sent) => {
+    match builder_by_numbers(class, instruction, p1, p2, le, mode, &response[..0]) {
+        Built::Refused(k) => refusal_status(k, out.len(), 12),
+        Built::Builder(builder) => {
             if out.len() < 12 {
                 return 16;
             }
+            let sent = sent_by_kind(kind, builder);
             let state = Collection { sent, len: held };
             let answer = state.step(response, room);
             write_step(answer, out)
@@ -228,12 +186,23 @@ pub extern "C" fn gorvisclen_collect_step(
 
 // Writes what is to be sent into the buffer, and its length into a slice that has a place for it. How many bytes are
 // held does not matter.
-fn write_sent(sent: Sent, data: &[u8], buffer: &mut [u8], at: usize, out: &mut [u64]) -> u8
+fn write_sent(
+    kind: u8,
+    builder: CommandBuilder,
+    data: &[u8],
+    buffer: &mut [u8],
+    at: usize,
+    out: &mut [u64],
+) -> u8
     requires { ⌜ 1 ≤ length (now out) ⌝ }
-    ensures { λ r. ⌜ SentWritten (ok sent) (now («data» .entry)) at (now (buffer .entry)) (now (out .entry)) r (now (buffer .exit))
-        (now (out .exit)) ⌝ }
+    ensures { λ r. ⌜ Serialized (ok builder) (dataByKind kind (now («data» .entry))) at (now (buffer .entry)) (now (out .entry)) r
+        (now (buffer .exit)) (now (out .exit)) ⌝ }
 {
-    let state = Collection { sent, len: 0 };
+    let to_send = sent_by_kind(kind, builder);
+    let state = Collection {
+        sent: to_send,
+        len: 0,
+    };
     match state.write(data, buffer, at) {
         Length::Refused(k) => k,
         Length::Bytes(n) => {
@@ -259,16 +228,17 @@ pub extern "C" fn gorvisclen_collect_write(
     at: usize,
     out: &mut [u64],
 ) -> u8
-    ensures { λ r. ⌜ SentWritten (sentByNumbers kind class instruction p1 p2 le mode (now («data» .entry))) (now («data» .entry)) at
-        (now (buffer .entry)) (now (out .entry)) r (now (buffer .exit)) (now (out .exit)) ⌝ }
+    ensures { λ r. ⌜ SentWritten kind class instruction p1 p2 le mode (now («data» .entry)) at (now (buffer .entry)) (now (out .entry)) r
+        (now (buffer .exit)) (now (out .exit)) ⌝ }
 {
-    match sent_by_numbers(kind, class, instruction, p1, p2, le, mode, data) {
-        Numbered::Refused(k) => refusal_status(k, out.len(), 1),
-        Numbered::Sent(sent) => {
+    let sent_data = data_by_kind(kind, data);
+    match builder_by_numbers(class, instruction, p1, p2, le, mode, sent_data) {
+        Built::Refused(k) => refusal_status(k, out.len(), 1),
+        Built::Builder(builder) => {
             if out.len() < 1 {
                 return 16;
             }
-            write_sent(sent, data, buffer, at, out)
+            write_sent(kind, builder, data, buffer, at, out)
         }
     }
 }

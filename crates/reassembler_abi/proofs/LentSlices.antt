@@ -20,10 +20,10 @@ use Rattle.reassembler.specs.Join.{continues, heldLen, lengthOf, takenIn, viewI
 use Rattle.reassembler.specs.declared.Reassembler.{Reassembler}
 use Rattle.reassembler.specs.declared.Reassembler.the-variants.{Closed, Open}
 use Rattle.reassembler.specs.declared.Joined.{Joined}
-use Rattle.abi.specs.Answers.{tooShort, outAfter, refusal-status-is, usableLen, NumbersWritten, BytesCopied}
+use Rattle.abi.specs.Answers.{tooShort, outAfter, roomAfter, refusal-status-is, usableLen, NumbersWritten, BytesCopied}
 use Rattle.abi.proofs.AnswerLaws.{refusal-fitted, refusal-written, row-status-0, row-all, after-short}
 use Rattle.abi.specs.Commands.{commandOfLength}
-use Rattle.reassembler_abi.specs.Numbers.{openChainNumbers, stateNumbers, joinReply, stateMet, joinedBy, roomAfter, PieceJoined, JoinedData}
+use Rattle.reassembler_abi.specs.Numbers.{openChainNumbers, stateNumbers, joinReply, stateMet, joinedBy, PieceJoined, JoinedData}
 
 -- a slice that is too short for the numbers stays, and so does the room
 written-short : (x : Reply (List ℕ)) (out : List ℕ) → out ≡ outAfter (tooShort x) out

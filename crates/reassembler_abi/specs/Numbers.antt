@@ -14,7 +14,7 @@ use Rattle.reassembler.specs.Join.{joinOf}
 use Rattle.reassembler.specs.declared.OpenChain.{OpenChain}
 use Rattle.reassembler.specs.declared.Reassembler.{Reassembler}
 use Rattle.reassembler.specs.declared.Reassembler.the-variants.{Closed, Open}
-use Rattle.abi.specs.Answers.{ifLongEnough, NumbersWritten, BytesCopied}
+use Rattle.abi.specs.Answers.{ifLongEnough, roomAfter, NumbersWritten, BytesCopied}
 use Rattle.abi.specs.Commands.{commandNumbers}
 use Rattle.reassembler_abi.specs.declared.Numbered.{Numbered}
 use Rattle.reassembler_abi.specs.declared.Numbered.the-variants as numbered
@@ -66,11 +66,6 @@ joinedBy (refused k) room s = refused k
 abbrev pub roomBy : Reply Reassembler → List ℕ → List ℕ → List ℕ
 roomBy (ok r) room s = joinOf r room s .room
 roomBy (refused k) room s = room
-
--- a refusal leaves the room, also the refusal 16 of a slice that is too short for the numbers (rule 1.25)
-abbrev pub roomAfter : Reply (List ℕ) → List ℕ → List ℕ → List ℕ
-roomAfter (ok vs) after room = after
-roomAfter (refused k) after room = room
 
 -- the promise of `gorvisclen_join`, for the state x
 pub record PieceJoined (x : Reply Reassembler) (s room out : List ℕ) (r : ℕ) (room′ out′ : List ℕ) : Type 0 where

@@ -2,32 +2,21 @@
 // Each function replies 0, or the number of a refusal. Numbers are written into the slice `out` only if it replies 0.
 ghost use mathlib.Core.Path.{_≡_};
 ghost use Rattle.abi.specs.Answers.{NumbersWritten};
-ghost use Rattle.builder.specs.Bytes.{leNumber};
 ghost use Rattle.splitter.specs.Step.{asReply as splitAsReply};
 ghost use Rattle.splitter.specs.Pieces.{newAsReply, writeAsReply};
 ghost use Rattle.splitter_abi.specs.Numbers.{splitting, shouldSplitReply, new-non-extended-is, fromPlace, piecesByNumbers};
 ghost use Rattle.splitter_abi.specs.Numbers.{pieceReply, writtenReply, PieceWritten};
 use abi::builder_by_numbers;
+use abi::expected_len_number;
 use abi::refusal_status;
 use abi::write_numbers;
 use builder::Built;
-use builder::ExpectedLen;
 use splitter::Left;
 use splitter::NewPieces;
 use splitter::Pieces;
 use splitter::ShouldSplit;
 use splitter::WriteNext;
 use splitter::Written;
-
-// The number of an expected length: 65,536 for Max.
-fn expected_number(le: ExpectedLen) -> u64
-    ensures { λ r. ⌜ r ≡ leNumber le ⌝ }
-{
-    match le {
-        ExpectedLen::Ne(n) => n as u64,
-        ExpectedLen::Max => 65536,
-    }
-}
 
 // Writes the two parts of a command, or zeros if it is not split.
 fn write_split(answer: ShouldSplit, out: &mut [u64]) -> u8
@@ -50,9 +39,9 @@ fn write_split(answer: ShouldSplit, out: &mut [u64]) -> u8
                 1,
                 split.len as u64,
                 first_class.into_inner() as u64,
-                expected_number(first_le),
+                expected_len_number(first_le),
                 rest_class.into_inner() as u64,
-                expected_number(rest_le),
+                expected_len_number(rest_le),
             ];
             write_numbers(&row, out)
         }
@@ -162,7 +151,7 @@ fn write_piece(written: Written, out: &mut [u64]) -> u8
                 written.len as u64,
                 1,
                 left.at as u64,
-                expected_number(le),
+                expected_len_number(le),
             ];
             write_numbers(&row, out)
         }

@@ -11,7 +11,7 @@ returns c =
     let a = k .before .before .args in
     let b = a .builder in
     let class = k .into-inner .ensures in
-    let le = c .before .expected-number .ensures in
+    let le = c .before .expected-len-number .ensures in
     let mode = c .mode-number .ensures in
     λ i. a .kind ∷ class i ∷ b .instruction ∷ b .p1 ∷ b .p2 ∷ le i ∷ mode i ∷ a .held ∷ []
 

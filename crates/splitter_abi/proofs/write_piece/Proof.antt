@@ -11,7 +11,7 @@ returns-2 : tie.Need-returns-2
 returns-2 c =
     let t = c .before .before in
     let e = t .before .before .before in
-    rw (e .before .before .before .rest .given .1, ← e .expected-number .ensures) (t .write-numbers2 .ensures)
+    rw (e .before .before .before .rest .given .1, ← e .expected-len-number .ensures) (t .write-numbers2 .ensures)
 
 pub write-piece-spec : {M : Type 1} → statement M
 write-piece-spec =

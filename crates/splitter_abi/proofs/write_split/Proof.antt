@@ -19,8 +19,8 @@ returns-3 c =
     let i = e .before .before .before in
     let s = i .before .before .before .before .before .before in
     rw (s .answer2 .given .1)
-    (split-row _ _ _ (s .answer2 .given .0 .0) _ _ _ _ (i .into-inner .ensures) (e .before .before .expected-number .ensures)
-    (e .before .into-inner2 .ensures) (e .expected-number2 .ensures) (t .write-numbers2 .ensures))
+    (split-row _ _ _ (s .answer2 .given .0 .0) _ _ _ _ (i .into-inner .ensures) (e .before .before .expected-len-number .ensures)
+    (e .before .into-inner2 .ensures) (e .expected-len-number2 .ensures) (t .write-numbers2 .ensures))
 
 pub write-split-spec : {M : Type 1} → statement M
 write-split-spec =

@@ -1,6 +1,6 @@
 use borrow.Author.Needs.{needs}
 use native.Mathlib.Omega.{arith}
-use Rattle.builder_abi.proofs.LentBuffer.{not-made, out-short, written}
+use Rattle.abi.proofs.SerializedLaws.{not-made, out-short, written}
 use Rattle.builder_abi.proofs.write.gorvisclen_serialize_into.Statement.{statement}
 use Rattle.builder_abi.proofs.write.gorvisclen_serialize_into.Tie as tie
 

@@ -1,7 +1,7 @@
 use borrow.Author.Needs.{needs}
 use mathlib.Core.List.{[], _∷_}
 use Rattle.basis.proofs.Over.{stored}
-use Rattle.builder_abi.proofs.LentBuffer.{write-refused, done}
+use Rattle.abi.proofs.SerializedLaws.{write-refused, done}
 use Rattle.builder_abi.proofs.write.write.Statement.{statement}
 use Rattle.builder_abi.proofs.write.write.Tie as tie
 

@@ -18,9 +18,9 @@ use Rattle.builder.specs.declared.Built.{Built}
 use Rattle.builder.specs.declared.Built.the-variants as built
 use Rattle.builder.specs.declared.sizes.Length.{Length}
 use Rattle.builder.specs.declared.sizes.Length.the-variants.{Bytes, Refused}
 use Rattle.abi.specs.Builders.{builderByNumbers}
 use Rattle.abi.proofs.BuilderLaws.{few}
-use Rattle.builder_abi.specs.Serialized.{Serialized}
+use Rattle.abi.specs.Serialized.{Serialized}
 
 -- 16, whether the command fits the buffer or not
 either-way-16 : (w : Bool) (n : ℕ) → tooShort (cond w (refused 16) (ok n)) ≡ refused 16

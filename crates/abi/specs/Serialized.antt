@@ -17,7 +17,7 @@ abbrev pub bufferBy : Reply CommandBuilder → Reply ℕ → List ℕ → List �
 bufferBy (ok b) y d buffer at = bufferAfter y b d buffer at
 bufferBy (refused k) y d buffer at = buffer
 
--- the promise of `gorvisclen_serialize_into`, for the builder x
+-- the promise of a function that writes the command of the builder x with the data d
 pub record Serialized (x : Reply CommandBuilder) (d : List ℕ) (at : ℕ) (buffer out : List ℕ) (r : ℕ) (buffer′ out′ : List ℕ)
     : Type 0 where
   pub reply : r ≡ status (writing x d at (length buffer) (length out))
