@@ -17,7 +17,8 @@ pub const GET_RESPONSE: u8 = 1;
 
 /// The state of a collection: what is to be sent, or was sent last, and how many bytes at the front of the room are
 /// collected. `header`, `le` and `mode` are those of the command or of GET RESPONSE, as the kind says. The data of the
-/// command stay with the caller.
+/// command stay with the caller. A state made by hand is taken as it is: the kind says whether data are sent, and what
+/// is sent again after 6Cxx.
 #[derive(Clone, Copy, Debug, PartialEq, Eq)]
 pub struct Collection {
     pub kind: u8,
@@ -37,10 +38,12 @@ impl Collection {
         Ok(Collection::from_numbers(numbers))
     }
 
-    /// Takes the response to what was sent. Writes its data to `room`, after those that are held. Writes 12 numbers.
-    /// The first four are the end, which is any status except 61xx and 6Cxx: 1, SW1, SW2, how many bytes at the front
-    /// of `room` are collected. If more is to be sent: zeros. The other eight are the state after it, see `after`; at
-    /// the end they are zeros.
+    /// Takes the response to what was sent. Writes its data to `room`, after those that are held, whatever its status
+    /// is. Writes 12 numbers. The first four are the end, which is any status except 61xx and 6Cxx: 1, SW1, SW2, how
+    /// many bytes at the front of `room` are collected. If more is to be sent: zeros. The other eight are the state
+    /// after it, see `after`; at the end they are zeros. After 61xx it is GET RESPONSE: the class byte of what was sent
+    /// as it is, instruction C0, P1 and P2 0, `SHORT_ONLY`. After 6Cxx it is what was sent last. The expected length of
+    /// both is xx, 00 meaning 256, also if there was none before.
     /// Refusals: 3 for the state's class; 16; 22; 23, for every `held`. After a refusal the state is the same as
     /// before.
     #[inline]
@@ -51,15 +54,16 @@ impl Collection {
         ))
     }
 
-    /// The state after a response, from the numbers that `step` wrote, if more is to be sent.
+    /// The state after a response, from the numbers that `step` wrote. There is none at the end: these are then zeros,
+    /// which are no state to go on with.
     #[inline]
     pub fn after(numbers: [u64; COLLECT_NUMBERS]) -> Collection {
         let [_, _, _, _, state @ ..] = numbers;
         Collection::from_numbers(state)
     }
 
-    /// The state in eight numbers: the kind, 0 or 1; class byte; instruction byte; P1; P2; the expected length (65,536
-    /// for Max); the mode; bytes held.
+    /// The state of eight numbers that `collect_start` or `step` wrote: the kind, 0 or 1; class byte; instruction byte;
+    /// P1; P2; the expected length, not lowered (65,536 for Max); the mode, 0 to 2; bytes held.
     #[inline]
     pub fn from_numbers(numbers: [u64; COLLECTION_NUMBERS]) -> Collection {
         let [kind, class, instruction, p1, p2, le, mode, held] = numbers;
