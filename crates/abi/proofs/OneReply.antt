@@ -15,7 +15,8 @@ use Rattle.builder.specs.declared.CommandBuilder.{CommandBuilder}
 use Rattle.builder.proofs.OneReply.{new}
 use Rattle.abi.specs.Answers.{NumbersWritten, unlessRefused, BytesCopied, ReplyCopied, refusal-status-is, usable-len-is, flag-is}
 use Rattle.abi.specs.Readings.{class-reading-by-number-is, tlv-reading-by-number-is}
-use Rattle.abi.specs.Builders.{expectedLenByNumber, modeByNumber, builderByNumbers, expected-len-by-number-is, expected-len-number-is, mode-by-number-is, builder-by-numbers-is}
+use Rattle.abi.specs.Builders.{expectedLenByNumber, modeByNumber, builderByNumbers, expected-len-by-number-is, mode-by-number-is, builder-by-numbers-is}
+use Rattle.abi.specs.Lengths.{expected-len-number-is}
 use Rattle.abi.specs.Serialized.{Serialized}
 use Rattle.abi.specs.Commands.{command-numbers-is, command-of-length-is}
 

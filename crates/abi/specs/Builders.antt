@@ -1,4 +1,4 @@
--- A builder by numbers (rules 3.1 and 3.2, refusals 3 and 13), and the number of an expected length.
+-- A builder by numbers (rules 3.1 and 3.2, refusals 3 and 13).
 use Prim.Native.Nat.{ℕ}
 use mathlib.Core.Path.{_≡_}
 use mathlib.Core.Bool.{cond}
@@ -7,7 +7,6 @@ use lib.Dec.{leb, eqb}
 use lib.ListN.{length}
 use Rattle.basis.specs.Reply.{Reply}
 use Rattle.builder.specs.Builder.{newOf, asReply}
-use Rattle.builder.specs.Bytes.{leNumber}
 use Rattle.builder.specs.declared.ExpectedLen.{ExpectedLen}
 use Rattle.builder.specs.declared.ExpectedLen.the-variants.{Ne, Max}
 use Rattle.builder.specs.declared.ExtendedLen.{ExtendedLen}
@@ -27,12 +26,9 @@ modeByNumber m = cond (eqb m 0) Unsupported (cond (eqb m 1) Supported Forced)
 unfoldable pub builderByNumbers : ℕ → ℕ → ℕ → ℕ → ℕ → ℕ → List ℕ → Reply CommandBuilder
 builderByNumbers c i p q e m d = newOf c i p q (length d) (expectedLenByNumber e) (modeByNumber m)
 
--- the promises of `expected_len_by_number`, `expected_len_number`, `mode_by_number` and `builder_by_numbers`
+-- the promises of `expected_len_by_number`, `mode_by_number` and `builder_by_numbers`
 abbrev pub expected-len-by-number-is : ℕ → ExpectedLen → Type 0
 expected-len-by-number-is e x = x ≡ expectedLenByNumber e
-
-abbrev pub expected-len-number-is : ExpectedLen → ℕ → Type 0
-expected-len-number-is x n = n ≡ leNumber x
 
 abbrev pub mode-by-number-is : ℕ → ExtendedLen → Type 0
 mode-by-number-is m x = x ≡ modeByNumber m

@@ -2,5 +2,6 @@
 pub mod Answers
 pub mod Readings
 pub mod Builders
+pub mod Lengths
 pub mod Serialized
 pub mod Commands

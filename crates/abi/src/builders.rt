@@ -1,6 +1,5 @@
-// A builder by numbers (rules 3.1 and 3.2), and the number of an expected length.
-ghost use Rattle.abi.specs.Builders.{expected-len-by-number-is, expected-len-number-is, mode-by-number-is};
-ghost use Rattle.abi.specs.Builders.{builder-by-numbers-is};
+// A builder by numbers (rules 3.1 and 3.2).
+ghost use Rattle.abi.specs.Builders.{expected-len-by-number-is, mode-by-number-is, builder-by-numbers-is};
 use builder::Built;
 use builder::CommandBuilder;
 use builder::ExpectedLen;
@@ -14,16 +13,6 @@ pub fn expected_len_by_number(le: u32) -> ExpectedLen
         return ExpectedLen::Ne(le as u16);
     }
     ExpectedLen::Max
-}
-
-// The number of an expected length: 65,536 for Max (rule 3.1).
-pub fn expected_len_number(le: ExpectedLen) -> u64
-    ensures { λ r. ⌜ expected-len-number-is le r ⌝ }
-{
-    match le {
-        ExpectedLen::Ne(n) => n as u64,
-        ExpectedLen::Max => 65536,
-    }
 }
 
 // The mode by number: 0 short only, 1 extended supported, any other extended forced (rule 3.1).

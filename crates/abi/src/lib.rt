@@ -2,6 +2,7 @@
 mod answers;
 mod builders;
 mod commands;
+mod lengths;
 mod readings;
 
 pub use answers::Numbers;
@@ -13,9 +14,9 @@ pub use answers::write_numbers;
 pub use answers::write_unless_refused;
 pub use builders::builder_by_numbers;
 pub use builders::expected_len_by_number;
-pub use builders::expected_len_number;
 pub use builders::mode_by_number;
 pub use commands::command_numbers;
 pub use commands::command_of_length;
+pub use lengths::expected_len_number;
 pub use readings::class_reading_by_number;
 pub use readings::tlv_reading_by_number;

@@ -17,8 +17,8 @@ pub const GET_RESPONSE: u8 = 1;
 
 /// The state of a collection: what is to be sent, or was sent last, and how many bytes at the front of the room are
 /// collected. `header`, `le` and `mode` are those of the command or of GET RESPONSE, as the kind says. The data of the
-/// command stay with the caller. A state made by hand is taken as it is: the kind says whether data are sent, and what
-/// is sent again after 6Cxx.
+/// command stay with the caller. A state made by hand is taken as it is, with its own header and mode: the kind only
+/// says whether data are sent with it.
 #[derive(Clone, Copy, Debug, PartialEq, Eq)]
 pub struct Collection {
     pub kind: u8,

@@ -1,8 +1,8 @@
 use borrow.Author.Needs.{needs}
 use mathlib.Core.Path.{sym, ap}
 use Rattle.builder.specs.Bytes.{leNumber}
-use Rattle.abi.proofs.builders.expected_len_number.Statement.{statement}
-use Rattle.abi.proofs.builders.expected_len_number.Tie as tie
+use Rattle.abi.proofs.lengths.expected_len_number.Statement.{statement}
+use Rattle.abi.proofs.lengths.expected_len_number.Tie as tie
 
 returns : tie.Need-returns
 returns c = sym (ap leNumber (c .before .le .given .1))
