@@ -2,10 +2,11 @@
 use Prim.Native.Nat.{ℕ}
 use mathlib.Core.Path.{_≡_, _∙⁻¹_}
 use mathlib.Core.Bool.{Bool}
-use mathlib.Core.List.{List}
+use mathlib.Core.List.{List, [], _∷_}
 use lib.ListN.{length}
-use Rattle.basis.specs.Reply.{Reply, ok, refused}
+use Rattle.basis.specs.Reply.{Told, Reply, ok, refused}
 use Rattle.class.specs.declared.Reading as class
+use Rattle.tlv.specs.Lookup.{Found, Halt}
 use Rattle.tlv.specs.declared.Reading as tlv
 use Rattle.command.specs.declared.owned.Command.{Command}
 use Rattle.builder.specs.declared.ExpectedLen.{ExpectedLen}
@@ -13,7 +14,8 @@ use Rattle.builder.specs.declared.ExtendedLen.{ExtendedLen}
 use Rattle.builder.specs.declared.Built.{Built}
 use Rattle.builder.specs.declared.CommandBuilder.{CommandBuilder}
 use Rattle.builder.proofs.OneReply.{new}
-use Rattle.abi.specs.Answers.{NumbersWritten, unlessRefused, BytesCopied, ReplyCopied, refusal-status-is, usable-len-is, flag-is}
+use Rattle.abi.specs.Answers.{NumbersWritten, unlessRefused, Row, row, RowTold, CopiedWith, BytesCopied, ReplyCopied, refusal-status-is, usable-len-is, flag-is}
+use Rattle.abi.specs.Lookups.{lookupRow}
 use Rattle.abi.specs.Readings.{class-reading-by-number-is, tlv-reading-by-number-is}
 use Rattle.abi.specs.Builders.{expectedLenByNumber, modeByNumber, builderByNumbers, expected-len-by-number-is, mode-by-number-is, builder-by-numbers-is}
 use Rattle.abi.specs.Lengths.{expected-len-number-is}
@@ -34,13 +36,31 @@ write-numbers numbers = one (length numbers) (ok numbers)
 pub write-unless-refused : (k : ℕ) (numbers : List ℕ) → One (length numbers) (unlessRefused k numbers)
 write-unless-refused k numbers = one (length numbers) (unlessRefused k numbers)
 
+-- two answers that tell one row are equal
+abbrev pub OneRow : Row → Type 0
+OneRow x = (out : List ℕ) (r s : ℕ) (a b : List ℕ) → RowTold x out r a → RowTold x out s b → (r ≡ s) × (a ≡ b)
+
+pub one-row : (x : Row) → OneRow x
+one-row x out r s a b p q = (p .reply ∙⁻¹ q .reply, p .told ∙⁻¹ q .told)
+
+pub tell-row : (k : ℕ) (numbers : List ℕ) → OneRow (row k numbers)
+tell-row k numbers = one-row (row k numbers)
+
+pub tell-lookup : (x : Told Halt Found) → OneRow (lookupRow x)
+tell-lookup x = one-row (lookupRow x)
+
+-- two answers that copy the same bytes and write the same numbers are equal
+pub copy-and-tell : (vs d to out : List ℕ) (r s : ℕ) (a b u v : List ℕ) → CopiedWith vs d to out r a u → CopiedWith vs d to out s b v
+    → (r ≡ s) × (a ≡ b) × (u ≡ v)
+copy-and-tell vs d to out r s a b u v p q = (p .reply ∙⁻¹ q .reply, p .bytes ∙⁻¹ q .bytes, p .row ∙⁻¹ q .row)
+
 -- two answers that copy the bytes of one reply are equal
 abbrev pub OneCopy : Reply (List ℕ) → Type 0
 OneCopy x = (to out : List ℕ) (r s : ℕ) (a b u v : List ℕ) → ReplyCopied x to out r a u → ReplyCopied x to out s b v
     → (r ≡ s) × (a ≡ b) × (u ≡ v)
 
 pub one-copy : (x : Reply (List ℕ)) → OneCopy x
-one-copy (ok d) to out r s a b u v p q = (p .reply ∙⁻¹ q .reply, p .bytes ∙⁻¹ q .bytes, p .row ∙⁻¹ q .row)
+one-copy (ok d) to out r s a b u v p q = copy-and-tell (length d ∷ []) d to out r s a b u v p q
 one-copy (refused k) to out r s a b u v p q = (p .0 ∙⁻¹ q .0, p .1 ∙⁻¹ q .1, p .2 ∙⁻¹ q .2)
 
 pub copy-bytes : (d to out : List ℕ) (r s : ℕ) (a b u v : List ℕ) → BytesCopied d to out r a u → BytesCopied d to out s b v

@@ -1,6 +1,6 @@
 -- How an exported function answers: a status, and numbers at the front of a lent slice. It is refused with 16 if the
 -- slice is too short, unless a smaller number is given (rules 1.16 and 1.22). A refusal writes nothing (rules 1.24 and
--- 1.25).
+-- 1.25), unless it carries numbers (rule 15.7).
 use Prim.Native.Nat.{ℕ}
 use mathlib.Core.Path.{_≡_}
 use mathlib.Core.Bool.{Bool, true, false, cond}
@@ -51,6 +51,23 @@ pub record NumbersWritten (m : ℕ) (x : Reply (List ℕ)) (out : List ℕ) (r :
   pub reply : r ≡ status (ifLongEnough m (length out) x)
   pub row : after ≡ outAfter (ifLongEnough m (length out) x) out
 
+-- an answer that has numbers whatever its status is (rule 15.7): the status, 0 or a refusal, and the numbers
+pub record Row : Type 0 where
+  pub status : ℕ
+  pub numbers : List ℕ
+
+abbrev pub row : ℕ → List ℕ → Row
+row k vs = record { status = k; numbers = vs }
+
+-- the status if the slice is too short for the numbers: 16, or the smaller refusal that is given anyway
+abbrev pub shortStatus : ℕ → ℕ
+shortStatus k = cond (eqb k 0) 16 (atMost16 k)
+
+-- the promise of a function that writes the numbers of a row whatever the status is, if the slice lent is long enough
+pub record RowTold (x : Row) (out : List ℕ) (r : ℕ) (after : List ℕ) : Type 0 where
+  pub reply : r ≡ cond (ltb (length out) (length (x .numbers))) (shortStatus (x .status)) (x .status)
+  pub told : after ≡ cond (ltb (length out) (length (x .numbers))) out (over (x .numbers) out)
+
 -- the numbers if the refusal given is 0; otherwise that refusal
 abbrev pub unlessRefused : ℕ → List ℕ → Reply (List ℕ)
 unlessRefused k vs = cond (eqb k 0) (ok vs) (refused k)
@@ -70,22 +87,24 @@ pub record NumbersOf (x : Reply (List ℕ)) (r : Numbers) : Type 0 where
   pub row : eqb (r .0) 0 ≡ hasNumbers x
   pub first : r .1 ≡ nth 0 x
   pub second : r .2 ≡ nth 1 x
-  pub third : r .3 ≡ nth 2 x
 
--- d bytes are copied to the front of a slice of m bytes, and their number is written to a row of n: 16 if one is too
--- short
-abbrev pub copyReply : ℕ → ℕ → ℕ → Reply (List ℕ)
-copyReply d m n = cond (ltb n 1) (refused 16) (cond (ltb m d) (refused 16) (ok (d ∷ [])))
+-- d bytes are copied to the front of a slice of m bytes, and numbers are written to a row of n: 16 if one is too short
+abbrev pub copyReply : List ℕ → ℕ → ℕ → ℕ → Reply (List ℕ)
+copyReply vs d m n = cond (ltb n (length vs)) (refused 16) (cond (ltb m d) (refused 16) (ok vs))
 
 abbrev pub copyAfter : Reply (List ℕ) → List ℕ → List ℕ → List ℕ
 copyAfter (ok vs) d to = over d to
 copyAfter (refused k) d to = to
 
--- the promise of a function that copies the bytes d
-pub record BytesCopied (d to out : List ℕ) (r : ℕ) (to′ out′ : List ℕ) : Type 0 where
-  pub reply : r ≡ status (copyReply (length d) (length to) (length out))
-  pub bytes : to′ ≡ copyAfter (copyReply (length d) (length to) (length out)) d to
-  pub row : out′ ≡ outAfter (copyReply (length d) (length to) (length out)) out
+-- the promise of a function that copies the bytes d and writes the numbers vs
+pub record CopiedWith (vs d to out : List ℕ) (r : ℕ) (to′ out′ : List ℕ) : Type 0 where
+  pub reply : r ≡ status (copyReply vs (length d) (length to) (length out))
+  pub bytes : to′ ≡ copyAfter (copyReply vs (length d) (length to) (length out)) d to
+  pub row : out′ ≡ outAfter (copyReply vs (length d) (length to) (length out)) out
+
+-- the same if the number is how many bytes they are
+abbrev pub BytesCopied : List ℕ → List ℕ → List ℕ → ℕ → List ℕ → List ℕ → Type 0
+BytesCopied d = CopiedWith (length d ∷ []) d
 
 -- the promise of a function that copies the bytes of a reply; a refusal changes nothing (rule 1.25)
 abbrev pub ReplyCopied : Reply (List ℕ) → List ℕ → List ℕ → ℕ → List ℕ → List ℕ → Type 0

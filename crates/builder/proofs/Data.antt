@@ -19,7 +19,7 @@ module _ {A : Type 0} (n : ℕ) where
   few-enough x h = rw (le-ltb 65535 n h)
 
   -- if the reply is a value, the data are at most 65,535 bytes; if it is a refusal, they are more
-  value-by : (b : Bool) (x y : A) → ltb 65535 n ≡ b → cond b (refused 13) (ok x) ≡ ok y → (n ≤ 65535) × (x ≡ y)
+  value-by : (b : Bool) (x y : A) → ltb 65535 n ≡ b → cond {A = Reply A} b (refused 13) (ok x) ≡ ok y → (n ≤ 65535) × (x ≡ y)
   value-by true x y h e = absurd (refused-not-ok 13 y e)
   value-by false x y h e = (ltb-false 65535 n h, cc)
 

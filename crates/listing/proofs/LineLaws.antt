@@ -11,10 +11,10 @@ use Rattle.basis.specs.Reply.{ok, refused}
 use Rattle.class.specs.declared.Reading.the-variants as class-reading
 use Rattle.command.specs.Command.{parse}
 use Rattle.command.specs.declared.CommandView.{CommandView}
-use Rattle.tlv.specs.Object.{Object, sizeOf, objectOf}
+use Rattle.tlv.specs.Object.{Object, sizeOf, objectOf, Item, Stop, placed}
 use Rattle.tlv.specs.Walk.{walk}
 use Rattle.tlv.specs.declared.Reading.the-variants.{Crate}
-use Rattle.tlv.proofs.Walk.{walk-refused, walk-met}
+use Rattle.tlv.proofs.Walk.{walk-refused, walk-met, walk-stopped, walk-item}
 use Rattle.listing.specs.declared.lines.Section.{Section}
 use Rattle.listing.specs.Input.{pair, items, itemsAt}
 use Rattle.listing.specs.Text.{line, headLine, lineForm, lineNumbers, viewLine, commandLine}
@@ -50,26 +50,39 @@ module _ (k j t n : ℕ) where
 abbrev pub linesFrom : ℕ → ℕ → ℕ → List ℕ → List ℕ
 linesFrom k j a s = walkLines k j (walk Crate a s .items) (walk Crate a s .stop)
 
--- all lines of a record; then by what is read at the front of s: nothing more, 12, or an object and the lines after it
+-- all lines of a record; then by what is read at the front of s: a refusal, or an object and the lines after it
 pub lines-first : (k : ℕ) (s : List ℕ) → objectLines k s ≡ linesFrom k 1 0 s
 unfolding objectLines
 lines-first k s = refl
 
 module _ (k j a : ℕ) (s : List ℕ) where
-  pub lines-stop : (r : ℕ) → objectOf Crate s ≡ refused r → linesFrom k j a s ≡ cond (eqb r 11) [] (line "%.% refused %\n" (k ∷ j ∷ r ∷ []))
+  pub lines-stop : (r : ℕ) → objectOf Crate s ≡ refused r
+      → linesFrom k j a s ≡ cond (eqb r 11) [] (line "%.% refused % at %\n" (k ∷ j ∷ r ∷ a ∷ []))
   unfolding walkLines
   lines-stop r e = rw (walk-refused Crate a s r e)
-
-  pub lines-end : objectOf Crate s ≡ refused 11 → linesFrom k j a s ≡ []
-  lines-end e = lines-stop 11 e
-
-  pub lines-12 : objectOf Crate s ≡ refused 12 → linesFrom k j a s ≡ line "%.% refused %\n" (k ∷ j ∷ 12 ∷ [])
-  lines-12 e = lines-stop 12 e
 
   pub lines-next : (o : Object) → objectOf Crate s ≡ ok o
       → linesFrom k j a s ≡ objectLine k j (o .tag) (o .len) ++ linesFrom k (j + 1) (a + sizeOf o) (drop (sizeOf o) s)
   unfolding walkLines
   lines-next o e = rw (walk-met Crate a s o e)
+
+  -- the same by what is read at place a: the end, 12 with its place (rules 10.7 and 10.8), or an object
+  lines-stopped : (e : Stop) → placed a (objectOf Crate s) ≡ refused e
+      → linesFrom k j a s ≡ cond (eqb (e .number) 11) [] (line "%.% refused % at %\n" (k ∷ j ∷ e .number ∷ e .place ∷ []))
+  unfolding walkLines
+  lines-stopped e h = rw (walk-stopped Crate a s e h)
+
+  pub lines-end : (n : ℕ) → placed a (objectOf Crate s) ≡ refused (record { number = 11; place = n }) → linesFrom k j a s ≡ []
+  lines-end n h = lines-stopped (record { number = 11; place = n }) h
+
+  pub lines-12 : (n : ℕ) → placed a (objectOf Crate s) ≡ refused (record { number = 12; place = n })
+      → linesFrom k j a s ≡ line "%.% refused % at %\n" (k ∷ j ∷ 12 ∷ n ∷ [])
+  lines-12 n h = lines-stopped (record { number = 12; place = n }) h
+
+  pub lines-item : (i : Item) → placed a (objectOf Crate s) ≡ ok i
+      → linesFrom k j a s ≡ objectLine k j (i .tag) (i .len) ++ linesFrom k (j + 1) (i .at + i .len) (drop (i .at + i .len - a) s)
+  unfolding walkLines
+  lines-item i h = rw (walk-item Crate a s i h)
 
 -- the text of the items from a place on: none left; one of n bytes, and those after it
 module _ (x : Section) (k : ℕ) (s : List ℕ) (at left : ℕ) where

@@ -16,7 +16,8 @@ use Rattle.class.specs.declared.Reading.the-variants as class-reading
 use Rattle.command.specs.Command.{parse}
 use Rattle.command.specs.declared.CommandView.{CommandView}
 use Rattle.command.proofs.Parsing.{within}
-use Rattle.tlv.specs.Object.{sizeOf}
+use Rattle.tlv.specs.Tag.{tagOf}
+use Rattle.tlv.specs.Object.{sizeOf, objectOf}
 use Rattle.tlv.specs.declared.Reading.the-variants.{Crate}
 use Rattle.tlv.proofs.Walk.{by-objects}
 use Rattle.listing.specs.declared.lines.Section.{Section}
@@ -101,17 +102,27 @@ module _ (k : ℕ) (h : k < 100000) where
       few-cond (ltb t 256) _ _ 25 (omega arith)
       (few-cond (ltb t 65536) _ _ 25 (omega arith) (line-few "%.% ### %\n" (k ∷ j ∷ t / 65536 ∷ t / 256 ∷ t ∷ n ∷ []) (h, (g, (f, tt)))))
 
-  stop-few : (j r : ℕ) → j < 100000 → r < 256 → length (cond (eqb r 11) [] (line "%.% refused %\n" (k ∷ j ∷ r ∷ []))) ≤ 26
+  stop-few : (j r a : ℕ) → j < 100000 → r < 256 → a < 100000
+      → length (cond (eqb r 11) [] (line "%.% refused % at %\n" (k ∷ j ∷ r ∷ a ∷ []))) ≤ 35
   unfolding takesNumber
-  stop-few j r g f = few-cond (eqb r 11) _ _ 26 (omega arith) (line-few "%.% refused %\n" (k ∷ j ∷ r ∷ []) (h, (g, (omega (arith, f), tt))))
+  stop-few j r a g f e =
+      few-cond (eqb r 11) _ _ 35 (omega arith) (line-few "%.% refused % at %\n" (k ∷ j ∷ r ∷ a ∷ []) (h, (g, (omega (arith, f), (e, tt)))))
 
-  objects-few : (a : ℕ) (s : List ℕ) (j : ℕ) → j + length s < 100000 → length (linesFrom k j a s) ≤ 26 + 13 * length s
+  -- a line for 12 needs a byte that starts an object
+  stopped-few : (a : ℕ) (s : List ℕ) (j r : ℕ) → objectOf Crate s ≡ refused r → a < 100000 → j < 100000
+      → length (cond (eqb r 11) [] (line "%.% refused % at %\n" (k ∷ j ∷ r ∷ a ∷ []))) ≤ 26 + 13 * length s
+  unfolding objectOf tagOf
+  stopped-few a [] j r e f g = let end : r ≡ 11 = cc in rw end (omega arith)
+  stopped-few a (x ∷ s) j r e f g = omega (arith, stop-few j r a g (object-refusal-small (x ∷ s) r e) f)
+
+  objects-few : (a : ℕ) (s : List ℕ) (j : ℕ) → a + length s < 100000 → j + length s < 100000
+      → length (linesFrom k j a s) ≤ 26 + 13 * length s
   objects-few =
-      by-objects Crate (λ a s. (j : ℕ) → j + length s < 100000 → length (linesFrom k j a s) ≤ 26 + 13 * length s)
-      (λ a s r e j g. rw (lines-stop k j a s r e) (omega (arith, stop-few j r (omega (arith, g)) (object-refusal-small s r e))))
-      (λ a s o e w deeper j g.
+      by-objects Crate (λ a s. (j : ℕ) → a + length s < 100000 → j + length s < 100000 → length (linesFrom k j a s) ≤ 26 + 13 * length s)
+      (λ a s r e j f g. rw (lines-stop k j a s r e) (stopped-few a s j r e (omega (arith, f)) (omega (arith, g))))
+      (λ a s o e w deeper j f g.
       let rest = linesFrom k (j + 1) (a + sizeOf o) (drop (sizeOf o) s) in
-      let few = deeper (j + 1) (omega (arith, g, w, length-drop (sizeOf o) s)) in
+      let few = deeper (j + 1) (omega (arith, f, w, length-drop (sizeOf o) s)) (omega (arith, g, w, length-drop (sizeOf o) s)) in
       rw (lines-next k j a s o e) (omega (
         arith,
         length-append (objectLine k j (o .tag) (o .len)) rest,
@@ -125,7 +136,7 @@ module _ (k : ℕ) (h : k < 100000) where
 item-few : (x : Section) (k : ℕ) (s : List ℕ) → k < 100000 → Bytes s → length s ≤ 60000 → length (itemText x k s) ≤ 26 + 13 * length s
 unfolding itemText
 item-few Commands k s h b l = command-few k h s b l
-item-few Records k s h b l = rw (lines-first k s) (objects-few k h 0 s 1 (omega (arith, l)))
+item-few Records k s h b l = rw (lines-first k s) (objects-few k h 0 s 1 (omega (arith, l)) (omega (arith, l)))
 
 items-few : (x : Section) (k n : ℕ) (s : List ℕ) → k + n ≤ 100000 → Bytes s → length s ≤ 60000 → length (itemsText x k (items n s)) ≤ 13 * itemsSize n s
 unfolding itemsText items itemsSize

@@ -11,7 +11,8 @@ use Rattle.basis.specs.Over.{over, overAt}
 use Rattle.class.specs.declared.Reading.the-variants as class-reading
 use Rattle.command.specs.Command.{parse}
 use Rattle.command.specs.declared.CommandView.{CommandView}
-use Rattle.tlv.specs.Walk.{Item, Stop, walk}
+use Rattle.tlv.specs.Object.{Item, Stop}
+use Rattle.tlv.specs.Walk.{walk}
 use Rattle.tlv.specs.declared.Reading.the-variants as tlv-reading
 use Rattle.basis.specs.Ascii.{ascii}
 use Rattle.listing.specs.Input.{itemsAt, sectionSize, wellFormed}
@@ -76,10 +77,10 @@ objectLine k j t n =
     cond (ltb t 256) (line "%.% # %\n" (k ∷ j ∷ t ∷ n ∷ []))
     (cond (ltb t 65536) (line "%.% ## %\n" (k ∷ j ∷ t / 256 ∷ t ∷ n ∷ [])) (line "%.% ### %\n" (k ∷ j ∷ t / 65536 ∷ t / 256 ∷ t ∷ n ∷ [])))
 
--- the lines of objects of record k, numbered from j on, and of the refusal after them (rule 10.7): 11 prints nothing
--- (rule 10.8)
+-- the lines of objects of record k, numbered from j on, and of the refusal after them, with its place in the record
+-- (rule 10.7): 11 prints nothing (rule 10.8)
 unfoldable pub walkLines : ℕ → ℕ → List Item → Stop → List ℕ
-walkLines k j [] x = cond (eqb (x .number) 11) [] (line "%.% refused %\n" (k ∷ j ∷ x .number ∷ []))
+walkLines k j [] x = cond (eqb (x .number) 11) [] (line "%.% refused % at %\n" (k ∷ j ∷ x .number ∷ x .place ∷ []))
 walkLines k j (i ∷ rest) x = objectLine k j (i .tag) (i .len) ++ walkLines k (j + 1) rest x
 
 -- the lines of record k: its objects of the top level, in the crate reading (rule 10.6)

@@ -68,7 +68,7 @@ fn object_line(out: &mut [u8], at: usize, k: usize, j: usize, tag: u32, len: usi
 }
 
 // Writes the lines of record k: its objects of the top level, in the crate reading (rule 10.6). The record stops at its
-// first refusal: 12 is its last line (rule 10.7), 11 prints nothing (rule 10.8).
+// first refusal: 12 is its last line, with its place in the record (rule 10.7), 11 prints nothing (rule 10.8).
 fn put_objects(out: &mut [u8], start: usize, k: usize, record: &[u8]) -> usize
     requires { ⌜ start + length (objectLines k (now «record»)) ≤ length (now out) ⌝ }
     ensures { λ r. ⌜ Puts (objectLines k (now («record» .entry))) start (now (out .entry)) r (now (out .exit)) ⌝ }
@@ -77,16 +77,16 @@ fn put_objects(out: &mut [u8], start: usize, k: usize, record: &[u8]) -> usize
     let mut at = 0;
     let mut j = 1;
     loop {
-        match take_data_object(tlv::Reading::Crate, &record[at..]) {
-            TakeDataObject::End => {
+        match take_data_object(tlv::Reading::Crate, record, at) {
+            TakeDataObject::End(_) => {
                 return place;
             }
-            TakeDataObject::Unreadable => {
-                return fill(out, place, b"%.% refused %\n", &[k, j, 12]);
+            TakeDataObject::Unreadable(n) => {
+                return fill(out, place, b"%.% refused % at %\n", &[k, j, 12, n]);
             }
-            TakeDataObject::Object(tag, head, len) => {
+            TakeDataObject::Object(_, tag, value, len) => {
                 place = object_line(out, place, k, j, tag, len);
-                at += head + len;
+                at = value + len;
             }
         }
         j += 1;

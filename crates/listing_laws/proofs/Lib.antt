@@ -12,12 +12,13 @@
 --   decimal-shows: a number is printed in digits that show it, without a 0 in front.
 -- Lines:
 --   command-shown, refusal-shown: the line of a command, word by word, by what the crate reading parses.
+--   record-shown: the lines of a record: its objects, and at its end the refusal, word by word, with its place.
 --   empty-record: a record of no bytes prints nothing.
 --   hexadecimal: every hexadecimal digit.
 -- In crates/listing/proofs: what a record prints (LineLaws), and that every text fits (Longest).
 --
 -- Wrong definitions that are refused (must-fail/text_definitions.edit): lengths_of_three_bytes, value_printed_as_tag,
--- zero_without_a_digit, lc_and_le_exchanged.
+-- zero_without_a_digit, lc_and_le_exchanged, object_printed_as_place.
 pub mod Decimal
 pub mod Encoded
 pub mod Tags

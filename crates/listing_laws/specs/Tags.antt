@@ -5,7 +5,7 @@ use mathlib.Core.List.{List, [], _∷_, _++_}
 use lib.ListN.{take, drop}
 use Rattle.basis.specs.Reply.{ok}
 use Rattle.tlv.specs.Tag.{Tag, tagOf}
-use Rattle.tlv.specs.Walk.{Item}
+use Rattle.tlv.specs.Object.{Item}
 use Rattle.tlv.specs.declared.Reading.the-variants.{Crate}
 use Rattle.listing.specs.Text.{hex, line, objectLine}
 

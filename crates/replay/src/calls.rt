@@ -107,7 +107,7 @@ pub(crate) fn call(
         8 => gorvisclen_aid_part(first, number(3), last_byte(), to, out),
         9 => gorvisclen_take_tag(last_byte(), first, out),
         10 => gorvisclen_take_len(last_byte(), first, out),
-        11 => gorvisclen_take_data_object(last_byte(), first, out),
+        11 => gorvisclen_take_data_object(last_byte(), first, number(3), out),
         12 | 13 => call_with_path(operation, minus_or_zero(count, 1), first, to, out),
         14 => gorvisclen_put_data_object(
             last_byte(),

@@ -4,12 +4,12 @@ use mathlib.Core.Path.{_≡_, refl, _∙⁻¹_}
 use mathlib.Core.Bool.{cond}
 use mathlib.Core.List.{List}
 use lib.Dec.{eqb}
-use Rattle.basis.specs.Reply.{Reply, ok, refused}
+use Rattle.basis.specs.Reply.{Told, Reply, ok, refused}
 use Rattle.basis.proofs.Reply.{apart}
 use Rattle.tlv.specs.Tag.{Tag, take-tag-is, asReply as tag-reply}
 use Rattle.tlv.specs.Len.{Len, take-len-is, asReply as len-reply}
-use Rattle.tlv.specs.Object.{Object, take-data-object-is, asReply as object-reply}
-use Rattle.tlv.specs.Lookup.{Span, get-data-object-is, value-is, asReply as lookup-reply}
+use Rattle.tlv.specs.Object.{Item, Stop, take-data-object-is, asReply as object-reply}
+use Rattle.tlv.specs.Lookup.{Found, Halt, get-data-object-is, value-is, asReply as lookup-reply}
 use Rattle.tlv.specs.declared.Reading.{Reading}
 use Rattle.tlv.specs.declared.tag.TakeTag.{TakeTag}
 use Rattle.tlv.specs.declared.tag.TakeTag.the-variants as tag
@@ -42,23 +42,23 @@ len-there-and-back : (x : TakeLen) → len-back (len-reply x) ≡ x
 len-there-and-back (len.Len n k) = refl
 len-there-and-back len.Unreadable = refl
 
-abbrev object-back : Reply Object → TakeDataObject
-object-back (ok o) = object.Object (o .tag) (o .at) (o .len)
-object-back (refused k) = end-or-unreadable object.End object.Unreadable k
+abbrev object-back : Told Stop Item → TakeDataObject
+object-back (ok i) = object.Object (i .place) (i .tag) (i .at) (i .len)
+object-back (refused e) = end-or-unreadable (object.End (e .place)) (object.Unreadable (e .place)) (e .number)
 
 object-there-and-back : (x : TakeDataObject) → object-back (object-reply x) ≡ x
-object-there-and-back (object.Object t a n) = refl
-object-there-and-back object.End = refl
-object-there-and-back object.Unreadable = refl
+object-there-and-back (object.Object p t a n) = refl
+object-there-and-back (object.End p) = refl
+object-there-and-back (object.Unreadable p) = refl
 
-abbrev lookup-back : Reply Span → GetDataObject
-lookup-back (ok p) = get.Value (p .at) (p .len)
-lookup-back (refused k) = end-or-unreadable get.End get.Unreadable k
+abbrev lookup-back : Told Halt Found → GetDataObject
+lookup-back (ok p) = get.Value (p .at) (p .len) (p .matched)
+lookup-back (refused h) = end-or-unreadable (get.End (h .place) (h .matched)) (get.Unreadable (h .place) (h .matched)) (h .number)
 
 lookup-there-and-back : (x : GetDataObject) → lookup-back (lookup-reply x) ≡ x
-lookup-there-and-back (get.Value a n) = refl
-lookup-there-and-back get.End = refl
-lookup-there-and-back get.Unreadable = refl
+lookup-there-and-back (get.Value a n m) = refl
+lookup-there-and-back (get.End p m) = refl
+lookup-there-and-back (get.Unreadable p m) = refl
 
 module _ (r : Reading) (s : List ℕ) where
   pub take-tag : (x y : TakeTag) → take-tag-is r s x → take-tag-is r s y → x ≡ y
@@ -67,8 +67,8 @@ module _ (r : Reading) (s : List ℕ) where
   pub take-len : (x y : TakeLen) → take-len-is r s x → take-len-is r s y → x ≡ y
   take-len x y p q = apart len-reply len-back len-there-and-back x y (p ∙⁻¹ q)
 
-  pub take-data-object : (x y : TakeDataObject) → take-data-object-is r s x → take-data-object-is r s y → x ≡ y
-  take-data-object x y p q = apart object-reply object-back object-there-and-back x y (p ∙⁻¹ q)
+  pub take-data-object : (at : ℕ) (x y : TakeDataObject) → take-data-object-is r s at x → take-data-object-is r s at y → x ≡ y
+  take-data-object at x y p q = apart object-reply object-back object-there-and-back x y (p ∙⁻¹ q)
 
   pub get-data-object : (path : List ℕ) (x y : GetDataObject) → get-data-object-is r s path x → get-data-object-is r s path y → x ≡ y
   get-data-object path x y p q = apart lookup-reply lookup-back lookup-there-and-back x y (p ∙⁻¹ q)

@@ -1,9 +1,10 @@
 -- The walk of a record, one object at a time and without a bound; then the search for a tag, and a path. What is found
 -- lies in the bytes that were searched.
-use Prim.Native.Nat.{ℕ, zero, suc, _+_, _≤_, _<_}
-use mathlib.Core.Path.{_≡_, refl, ap, _∙_}
+use Prim.Native.Nat.{ℕ, zero, suc, _+_, _-_, _≤_, _<_}
+use mathlib.Core.Path.{_≡_, refl, sym, ap, _∙_}
 use mathlib.Core.Bool.{cond}
 use mathlib.Core.List.{List, [], _∷_}
+use native.Mathlib.Nat.{add-assoc}
 use native.Mathlib.Numerals.{add-one}
 use native.Mathlib.Omega.{arith}
 use lib.Dec.{eqb}
@@ -11,13 +12,13 @@ use lib.ListN.{length, getD, drop, length-drop, length-take, drop-of-length-le}
 use lib.Seq.{drop-cons}
 use borrow.Author.Tests.{eq-eqb, ne-eqb}
 use Rattle.basis.specs.Reply.{Reply, ok, refused}
-use Rattle.basis.proofs.Reply.{All, by-reply, all-is, all-cond, all-then, all-weaken}
+use Rattle.basis.proofs.Reply.{All, by-reply, all-is, all-cond, all-weaken, refused-not-ok}
 use Rattle.tlv.specs.Tag.{tagOf}
-use Rattle.tlv.specs.Object.{Object, sizeOf, objectOf}
-use Rattle.tlv.specs.Walk.{Walk, itemAt, withItem, walkOn, walkIn, walk}
-use Rattle.tlv.specs.Lookup.{Span, part, wholeRecord, firstValue, seek, follow, lookup}
+use Rattle.tlv.specs.Object.{Object, sizeOf, objectOf, Item, Stop, itemAt, placed}
+use Rattle.tlv.specs.Walk.{Walk, withItem, walkOn, walkIn, walk}
+use Rattle.tlv.specs.Lookup.{Span, part, wholeRecord, firstValue, seek, Found, spanOf, follow, lookup}
 use Rattle.tlv.specs.declared.Reading.{Reading}
-use Rattle.tlv.proofs.Within.{Ends, object-within}
+use Rattle.tlv.proofs.Within.{Ends, object-within, object-inside}
 
 -- two ways to go on that agree after every object within the bytes give the same walk
 onward-same : (a m : ℕ) (f g : Object → Walk) (x : Reply Object) → All (Ends m) x → ((o : Object) → Ends m o → f o ≡ g o)
@@ -54,6 +55,24 @@ module _ (r : Reading) where
       walk r a s ≡ record { items = record { place = a; tag = o .tag; at = a + o .at; len = o .len } ∷ w .items; stop = w .stop }
   walk-met a s o e = rw (walk-is a s, e)
 
+  -- the same by what is read at place a
+  pub walk-stopped : (a : ℕ) (s : List ℕ) (e : Stop) → placed a (objectOf r s) ≡ refused e → walk r a s ≡ record { items = []; stop = e }
+  walk-stopped a s e h =
+      by-reply (objectOf r s) (λ o f. absurd (refused-not-ok e _ (sym (rw f at h)))) (λ k f.
+      let same : record { number = k; place = a } ≡ e = cc (rw f at h) in
+      walk-refused a s k f ∙ ap (λ (x : Stop). record { items = []; stop = x }) same)
+
+  pub walk-item : (a : ℕ) (s : List ℕ) (i : Item) → placed a (objectOf r s) ≡ ok i
+      → let w = walk r (i .at + i .len) (drop (i .at + i .len - a) s) in walk r a s ≡ record { items = i ∷ w .items; stop = w .stop }
+  walk-item a s i h =
+      by-reply (objectOf r s) (λ o f.
+      let same : itemAt a o ≡ i = cc (rw f at h) in
+      let size : a + o .at + o .len - a ≡ sizeOf o = omega arith in
+      let goes-on : Item → Walk = λ i. withItem i (walk r (i .at + i .len) (drop (i .at + i .len - a) s)) in
+      let here : walk r a s ≡ goes-on (itemAt a o) = rw (walk-met a s o f, size, add-assoc) in
+      here ∙ ap goes-on same)
+      (λ k f. absurd (refused-not-ok _ i (rw f at h)))
+
   -- induction: what holds of bytes where no object is read, and of bytes with an object in front if it holds of the
   -- bytes after it, holds of all bytes
   module _ (P : ℕ → List ℕ → Type 0) (none : (a : ℕ) (s : List ℕ) (k : ℕ) → objectOf r s ≡ refused k → P a s)
@@ -73,7 +92,7 @@ module _ (r : Reading) where
 
 module _ (r : Reading) (t : ℕ) where
   -- a search: no object is read; an object with the tag; another object, which is passed over whole (rule 6.11)
-  pub seek-refused : (a : ℕ) (s : List ℕ) (k : ℕ) → objectOf r s ≡ refused k → seek r t a s ≡ refused k
+  pub seek-refused : (a : ℕ) (s : List ℕ) (k : ℕ) → objectOf r s ≡ refused k → seek r t a s ≡ refused (record { number = k; place = a })
   unfolding seek firstValue
   seek-refused a s k e = rw (walk-refused r a s k e)
 
@@ -89,25 +108,39 @@ module _ (r : Reading) (t : ℕ) where
     pub seek-next : (o .tag ≡ t → ⊥) → seek r t a s ≡ seek r t (a + sizeOf o) (drop (sizeOf o) s)
     seek-next h = rw (seek-is, ne-eqb (o .tag) t h)
 
+-- an object that is read at place a has a byte there, and its value ends within the bytes
+pub item-inside : (r : Reading) (a : ℕ) (s : List ℕ) (i : Item) → placed a (objectOf r s) ≡ ok i
+    → (a < i .at) × (i .at + i .len ≤ a + length s)
+item-inside r a s i h =
+    by-reply (objectOf r s) (λ o e.
+    let w = object-inside r s o e in
+    let same : itemAt a o ≡ i = cc (rw e at h) in
+    omega (arith, w, ap (λ (j : Item). j .at) same, ap (λ (j : Item). j .len) same))
+    (λ k e. absurd (refused-not-ok _ i (rw e at h)))
+
 -- a path from its tag number i on, in a part p of the record: the tag is refused; it is found, and its value is
 -- entered; no tag is left (rules 6.10 and 6.13)
-module _ (r : Reading) (s : List ℕ) (p : Span) (path : List ℕ) (i : ℕ) where
-  pub follow-refused : (k : ℕ) → i < length path → seek r (getD path i 0) (p .at) (part s p) ≡ refused k → follow r s p (drop i path) ≡ refused k
+module _ (r : Reading) (s : List ℕ) (m : ℕ) (p : Span) (path : List ℕ) (i : ℕ) where
+  pub follow-refused : (e : Stop) → i < length path → seek r (getD path i 0) (p .at) (part s p) ≡ refused e
+      → follow r s m p (drop i path) ≡ refused (record { number = e .number; place = e .place; matched = m })
   unfolding follow
-  follow-refused k h e = rw (drop-cons path i 0 h, e)
+  follow-refused e h g = rw (drop-cons path i 0 h, g)
 
   pub follow-next : (q : Span) → i < length path → seek r (getD path i 0) (p .at) (part s p) ≡ ok q
-      → follow r s p (drop i path) ≡ follow r s q (drop (i + 1) path)
+      → follow r s m p (drop i path) ≡ follow r s (m + 1) q (drop (i + 1) path)
   unfolding follow
-  follow-next q h e = rw (drop-cons path i 0 h, e, add-one)
+  follow-next q h e = rw (drop-cons path i 0 h, e, add-one i)
 
-  pub follow-end : length path ≤ i → follow r s p (drop i path) ≡ ok p
+  pub follow-end : length path ≤ i → follow r s m p (drop i path) ≡ ok (record { at = p .at; len = p .len; matched = m })
   unfolding follow
   follow-end h = rw (drop-of-length-le path h)
 
--- a part that starts at place a or after it, and ends at place m or before it
+-- a part that starts at place a or after it, and ends at place m or before it; the same of a part that a path leads to
 abbrev pub Lies : ℕ → ℕ → Span → Type 0
 Lies a m p = (a ≤ p .at) × (p .at + p .len ≤ m)
+
+abbrev pub FoundIn : ℕ → ℕ → Found → Type 0
+FoundIn a m p = Lies a m (spanOf p)
 
 -- a value found lies in the bytes that were searched
 pub seek-within : (r : Reading) (t a : ℕ) (s : List ℕ) → All (Lies a (a + length s)) (seek r t a s)
@@ -119,22 +152,23 @@ seek-within r t =
     rw (seek-is r t a s o e) (all-cond L (eqb (o .tag) t) _ _ (λ _. omega arith)
     (λ _. all-weaken L (Lies b (b + length rest)) (seek r t b rest) (λ p l. omega (arith, length-drop (sizeOf o) s)) deeper)))
 
--- the value at the end of a path lies in the record (rule 6.15)
-pub follow-within : (r : Reading) (s : List ℕ) (p : Span) (path : List ℕ) → Lies 0 (length s) p → All (Lies 0 (length s)) (follow r s p path)
-unfolding follow
-follow-within r s p [] h = h
-follow-within r s p (t ∷ path) h =
-    let L = Lies 0 (length s) in
-    all-then L (Lies (p .at) (p .at + length (part s p))) (seek r t (p .at) (part s p)) _ (seek-within r t (p .at) (part s p))
-    (λ q l. follow-within r s q path (omega (arith, l, length-take (p .len) (drop (p .at) s), length-drop (p .at) s)))
-
-pub lookup-within : (r : Reading) (s path : List ℕ) → All (Lies 0 (length s)) (lookup r s path)
-lookup-within r s path = follow-within r s (wholeRecord s) path (omega arith)
-
 -- the same in places
-module _ (r : Reading) (s : List ℕ) where
-  pub seek-inside : (t a : ℕ) (p : Span) → seek r t a s ≡ ok p → (a ≤ p .at) × (p .at + p .len ≤ a + length s)
-  seek-inside t a p e = omega (arith, all-is (Lies a (a + length s)) (seek r t a s) p (seek-within r t a s) e)
+pub seek-inside : (r : Reading) (s : List ℕ) (t a : ℕ) (p : Span) → seek r t a s ≡ ok p → (a ≤ p .at) × (p .at + p .len ≤ a + length s)
+seek-inside r s t a p e = omega (arith, all-is (Lies a (a + length s)) (seek r t a s) p (seek-within r t a s) e)
 
-  pub lookup-inside : (path : List ℕ) (p : Span) → lookup r s path ≡ ok p → p .at + p .len ≤ length s
-  lookup-inside path p e = omega (arith, all-is (Lies 0 (length s)) (lookup r s path) p (lookup-within r s path) e)
+-- the value at the end of a path lies in the record (rule 6.15)
+pub follow-within : (r : Reading) (s : List ℕ) (m : ℕ) (p : Span) (path : List ℕ) → Lies 0 (length s) p
+    → All (FoundIn 0 (length s)) (follow r s m p path)
+unfolding follow
+follow-within r s m p [] h = h
+follow-within r s m p (t ∷ path) h =
+    by-reply (seek r t (p .at) (part s p)) (λ q e.
+    let l = seek-inside r (part s p) t (p .at) q e in
+    rw e (follow-within r s (m + 1) q path (omega (arith, l, length-take (p .len) (drop (p .at) s), length-drop (p .at) s))))
+    (λ k e. rw e tt)
+
+pub lookup-within : (r : Reading) (s path : List ℕ) → All (FoundIn 0 (length s)) (lookup r s path)
+lookup-within r s path = follow-within r s 0 (wholeRecord s) path (omega arith)
+
+pub lookup-inside : (r : Reading) (s path : List ℕ) (p : Found) → lookup r s path ≡ ok p → p .at + p .len ≤ length s
+lookup-inside r s path p e = omega (arith, all-is (FoundIn 0 (length s)) (lookup r s path) p (lookup-within r s path) e)

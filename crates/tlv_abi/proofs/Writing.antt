@@ -38,11 +38,11 @@ some-room : (t v : List ℕ) (at m k : ℕ) → putOf at m t v ≡ ok k → 1 �
 unfolding putOf
 some-room t v at m k e = by-length (ltb 65535 (length v)) e
   where
-    by-room : (c : Bool) → ltb m (at + length (objectBytes t v)) ≡ c → cond c (refused 16) (ok (length (objectBytes t v))) ≡ ok k → 1 ≤ m
+    by-room : (c : Bool) → ltb m (at + length (objectBytes t v)) ≡ c → cond {A = Reply ℕ} c (refused 16) (ok (length (objectBytes t v))) ≡ ok k → 1 ≤ m
     by-room true f g = absurd (refused-not-ok 16 k g)
     by-room false f g = omega (arith, ltb-false m (at + length (objectBytes t v)) f, object-some t v)
 
-    by-length : (b : Bool) → cond b (refused 19) (cond (ltb m (at + length (objectBytes t v))) (refused 16) (ok (length (objectBytes t v)))) ≡ ok k
+    by-length : (b : Bool) → cond {A = Reply ℕ} b (refused 19) (cond (ltb m (at + length (objectBytes t v))) (refused 16) (ok (length (objectBytes t v)))) ≡ ok k
         → 1 ≤ m
     by-length true g = absurd (refused-not-ok 19 k g)
     by-length false g = by-room (ltb m (at + length (objectBytes t v))) refl g

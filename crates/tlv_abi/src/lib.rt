@@ -1,16 +1,17 @@
 // What a host program calls to read a tag, a length or an object, to copy a value, and to write an object. Each
 // function returns 0, or the number of a refusal (docs/RULES.md, section 1). It writes its numbers to the front of the
-// slice `out`, unless it refuses.
-ghost use Rattle.abi.specs.Answers.{NumbersWritten, NumbersOf};
+// slice `out`, unless it refuses; for an object and a value also if it refuses with 11 or 12 (rule 15.7).
+ghost use Rattle.abi.specs.Answers.{NumbersWritten, NumbersOf, RowTold};
 ghost use Rattle.tlv.specs.Tag as tag;
 ghost use Rattle.tlv.specs.Len as len;
-ghost use Rattle.tlv.specs.Object as object;
-ghost use Rattle.tlv_abi.specs.Numbers.{tagNumbers, lenNumbers, objectNumbers, takeTagReply, takeLenReply, takeDataObjectReply, ValueCopied};
+ghost use Rattle.tlv_abi.specs.Numbers.{tagNumbers, lenNumbers, takeTagReply, takeLenReply, takeDataObjectRow, ValueCopied};
 
 mod write;
 
 use abi::Numbers;
-use abi::refusal_status;
+use abi::copy_and_tell;
+use abi::tell_lookup;
+use abi::tell_row;
 use abi::tlv_reading_by_number;
 use abi::write_unless_refused;
 use byte_slices::part;
@@ -25,9 +26,9 @@ fn tag_numbers(taken: TakeTag) -> Numbers
     ensures { λ r. ⌜ NumbersOf (tagNumbers (tag.asReply taken)) r ⌝ }
 {
     match taken {
-        TakeTag::End => Numbers(11, 0, 0, 0),
-        TakeTag::Unreadable => Numbers(12, 0, 0, 0),
-        TakeTag::Tag(tag, size) => Numbers(0, tag as u64, size as u64, 0),
+        TakeTag::End => Numbers(11, 0, 0),
+        TakeTag::Unreadable => Numbers(12, 0, 0),
+        TakeTag::Tag(tag, size) => Numbers(0, tag as u64, size as u64),
     }
 }
 
@@ -36,19 +37,8 @@ fn len_numbers(taken: TakeLen) -> Numbers
     ensures { λ r. ⌜ NumbersOf (lenNumbers (len.asReply taken)) r ⌝ }
 {
     match taken {
-        TakeLen::Unreadable => Numbers(12, 0, 0, 0),
-        TakeLen::Len(len, size) => Numbers(0, len as u64, size as u64, 0),
-    }
-}
-
-// An object as numbers.
-fn object_numbers(taken: TakeDataObject) -> Numbers
-    ensures { λ r. ⌜ NumbersOf (objectNumbers (object.asReply taken)) r ⌝ }
-{
-    match taken {
-        TakeDataObject::End => Numbers(11, 0, 0, 0),
-        TakeDataObject::Unreadable => Numbers(12, 0, 0, 0),
-        TakeDataObject::Object(tag, at, len) => Numbers(0, tag as u64, at as u64, len as u64),
+        TakeLen::Unreadable => Numbers(12, 0, 0),
+        TakeLen::Len(len, size) => Numbers(0, len as u64, size as u64),
     }
 }
 
@@ -70,16 +60,30 @@ pub extern "C" fn gorvisclen_take_len(reading: u8, bytes: &[u8], out: &mut [u64]
     write_unless_refused(len.0, &[len.1, len.2], out)
 }
 
-// Writes 3 numbers: the tag, the place of the value, and its length (rule 6.9).
+// Reads the object at a place of a record. Writes 4 numbers: its place, its tag, the place of its value, and the length
+// of the value (rule 15.1). With 11 and 12 too: the place of the end or of the object, and three zeros (rule 15.2).
 #[no_mangle]
-pub extern "C" fn gorvisclen_take_data_object(reading: u8, bytes: &[u8], out: &mut [u64]) -> u8
-    ensures { λ r. ⌜ NumbersWritten 3 (takeDataObjectReply reading (now (bytes .entry))) (now (out .entry)) r (now (out .exit)) ⌝ }
+pub extern "C" fn gorvisclen_take_data_object(
+    reading: u8,
+    record: &[u8],
+    at: usize,
+    out: &mut [u64],
+) -> u8
+    ensures { λ r. ⌜ RowTold (takeDataObjectRow reading (now («record» .entry)) at) (now (out .entry)) r (now (out .exit)) ⌝ }
 {
-    let object = object_numbers(tlv::take_data_object(tlv_reading_by_number(reading), bytes));
-    write_unless_refused(object.0, &[object.1, object.2, object.3], out)
+    match tlv::take_data_object(tlv_reading_by_number(reading), record, at) {
+        TakeDataObject::End(place) => tell_row(11, &[place as u64, 0, 0, 0], out),
+        TakeDataObject::Unreadable(place) => tell_row(12, &[place as u64, 0, 0, 0], out),
+        TakeDataObject::Object(place, tag, value, len) => tell_row(
+            0,
+            &[place as u64, tag as u64, value as u64, len as u64],
+            out,
+        ),
+    }
 }
 
-// Looks a path up, copies the value to the front of `to`, and writes its length (rule 6.15).
+// Looks a path up, and copies the value to the front of `to` (rule 6.15). Writes the 3 numbers of the lookup, with 11
+// and 12 too (rules 15.3 and 15.4).
 #[no_mangle]
 pub extern "C" fn gorvisclen_value(
     reading: u8,
@@ -91,10 +95,15 @@ pub extern "C" fn gorvisclen_value(
     ensures { λ r. ⌜ ValueCopied reading (now («record» .entry)) (now (path .entry)) (now (to .entry)) (now (out .entry)) r
         (now (to .exit)) (now (out .exit)) ⌝ }
 {
-    let by = tlv_reading_by_number(reading);
-    match tlv::get_data_object(by, record, path) {
-        GetDataObject::End => refusal_status(11, out.len(), 1),
-        GetDataObject::Unreadable => refusal_status(12, out.len(), 1),
-        GetDataObject::Value(at, len) => abi::copy_bytes(part(record, at, len), to, out),
+    let found = tlv::get_data_object(tlv_reading_by_number(reading), record, path);
+    match found {
+        GetDataObject::End(_, _) => tell_lookup(found, out),
+        GetDataObject::Unreadable(_, _) => tell_lookup(found, out),
+        GetDataObject::Value(at, len, matched) => copy_and_tell(
+            part(record, at, len),
+            to,
+            &[at as u64, len as u64, matched as u64],
+            out,
+        ),
     }
 }

@@ -12,7 +12,7 @@ use lib.Seq.{getD-drop}
 use borrow.Author.Tests.{ltb-true}
 use Rattle.basis.specs.Reply.{ok}
 use Rattle.basis.proofs.Reply.{by-reply}
-use Rattle.tlv.specs.Lookup.{Span, lookup, valueIn}
+use Rattle.tlv.specs.Lookup.{Found, spanOf, lookup, valueIn}
 use Rattle.tlv.specs.declared.Reading.{Reading}
 use Rattle.tlv.proofs.Walk.{lookup-inside}
 use Rattle.basis.proofs.Every.{every-weaken}
@@ -35,11 +35,11 @@ before-after r s path i h = covers-ahead (afterLast r s path) i (omega arith)
 -- the part entered last
 module _ (r : Reading) (s path : List ℕ) where
   pub seen-only : (i : ℕ) → seen r s path i ≡ true → (coveredBy (passed r s path) i ≡ false)
-      × ((p : Span) → lookup r s path ≡ ok p → i < p .at) × (i < lastEntered r s path .at + lastEntered r s path .len)
+      × ((p : Found) → lookup r s path ≡ ok p → i < p .at) × (i < lastEntered r s path .at + lastEntered r s path .len)
   seen-only i h =
       let g = second-alone (coveredBy (passed r s path) i) (ltb i (seenTo r s path)) h in
       let before = ltb-true i (seenTo r s path) (g .1) in
-      let found : (p : Span) → lookup r s path ≡ ok p → i < p .at = λ p e. omega (arith, seen-to-found r s path p e) in (
+      let found : (p : Found) → lookup r s path ≡ ok p → i < p .at = λ p e. omega (arith, seen-to-found r s path p e) in (
         g .0,
         found,
         by-reply (lookup r s path) (λ p e. rw (last-found r s path p e) (omega (arith, found p e)))
@@ -57,11 +57,11 @@ module _ (r : Reading) (s path : List ℕ) where
       let g = seen-only i h in
       rw (before-after r s path i (omega arith)) (g .0)
 
-  found-stays : (p : Span) → lookup r s path ≡ ok p → (i : ℕ) → p .at ≤ i → i < endOf p → coveredBy (aside r s path) i ≡ false
+  found-stays : (p : Found) → lookup r s path ≡ ok p → (i : ℕ) → p .at ≤ i → i < p .at + p .len → coveredBy (aside r s path) i ≡ false
   unfolding coveredBy
   found-stays p e i h g =
       rw (before-after r s path i (rw (last-found r s path p e) g))
-      (uncovered (passed r s path) i (every-weaken (λ q. covers q i ≡ false) (Before p) (passed r s path)
+      (uncovered (passed r s path) i (every-weaken (λ q. covers q i ≡ false) (Before (spanOf p)) (passed r s path)
       (λ q g. covers-after q i (omega arith)) (lookup-outside r s path p e)))
 
   -- a record of the same length with the same bytes at every place that is not left aside has the same lookup, and

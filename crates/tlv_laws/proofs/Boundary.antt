@@ -1,7 +1,7 @@
 -- Bytes in which a tag is refused with 11 are whole objects, none of them with that tag (rule 1.11). So the bytes
 -- before a place decide whether a lookup comes there. Also: a number that is no tag matches nothing (rule 6.12).
 use Prim.Native.Nat.{ℕ, _+_, _≤_, _<_}
-use mathlib.Core.Path.{_≡_, refl, sym, _∙_, subst}
+use mathlib.Core.Path.{_≡_, refl, sym, ap, _∙_, subst}
 use mathlib.Core.Logic.{_⊎_, inl, inr}
 use mathlib.Core.List.{List, [], _∷_, _++_}
 use native.Mathlib.Nat.{add-zero}
@@ -18,12 +18,13 @@ use Rattle.basis.proofs.Truth.{on-cond}
 use Rattle.tlv.specs.Tag.{Tag, tagOf}
 use Rattle.tlv.specs.Len.{Len, lenOf}
 use Rattle.tlv.specs.Object.{Object, sizeOf, objectOf}
-use Rattle.tlv.specs.Lookup.{Span, part, wholeRecord, seek, follow, lookup}
+use Rattle.tlv.specs.Lookup.{Span, part, wholeRecord, seek, Found, follow, lookup}
 use Rattle.tlv.specs.declared.Reading.{Reading}
 use Rattle.tlv.proofs.Tags.{by-tag}
 use Rattle.tlv.proofs.Lengths.{by-length}
 use Rattle.tlv.proofs.Within.{object-inside}
 use Rattle.tlv.proofs.Walk.{by-objects, seek-refused, seek-here, seek-next}
+use Rattle.tlv_laws.specs.Plain.{numberOnly, plain}
 use Rattle.tlv_laws.proofs.TruthValues.{by-test}
 use Rattle.tlv_laws.proofs.FrontOfBytes.{object-front}
 
@@ -69,28 +70,29 @@ object-end r (b ∷ s) e = absurd (omega (arith, subst Only12 e (object-only r (
 module _ (r : Reading) (t : ℕ) (P : ℕ → List ℕ → Type 0) (none : (a : ℕ) → P a [])
     (more : (a : ℕ) (x : List ℕ) (o : Object) → objectOf r x ≡ ok o → (o .tag ≡ t → ⊥)
     → P (a + sizeOf o) (drop (sizeOf o) x) → P a x) where
-  pub by-passed-objects : (a : ℕ) (x : List ℕ) → seek r t a x ≡ refused 11 → P a x
+  pub by-passed-objects : (a : ℕ) (x : List ℕ) → numberOnly (seek r t a x) ≡ refused 11 → P a x
   by-passed-objects =
-      by-objects r (λ a x. seek r t a x ≡ refused 11 → P a x)
-      (λ a x k q e. let z : k ≡ 11 = cc (seek-refused r t a x k q) in rw (object-end r x (rw z at q)) (none a))
+      by-objects r (λ a x. numberOnly (seek r t a x) ≡ refused 11 → P a x)
+      (λ a x k q e. let z : k ≡ 11 = cc (ap numberOnly (seek-refused r t a x k q)) in rw (object-end r x (rw z at q)) (none a))
       (λ a x o q _ further e.
-      by-test (eqb (o .tag) t) (λ g. absurd (refused-not-ok 11 _ (sym e ∙ seek-here r t a x o q (eqb-true (o .tag) t g)))) (λ g.
+      by-test (eqb (o .tag) t) (λ g. absurd (refused-not-ok 11 _ (sym e ∙ ap numberOnly (seek-here r t a x o q (eqb-true (o .tag) t g))))) (λ g.
       let other = eqb-false (o .tag) t g in
-      more a x o q other (further (sym (seek-next r t a x o q other) ∙ e))))
+      more a x o q other (further (ap numberOnly (sym (seek-next r t a x o q other)) ∙ e))))
 
 module _ (r : Reading) (t : ℕ) where
-  pub one-level : (x : List ℕ) → lookup r x (t ∷ []) ≡ seek r t 0 x
+  pub one-level : (x : List ℕ) → plain (lookup r x (t ∷ [])) ≡ numberOnly (seek r t 0 x)
   unfolding follow
   one-level x = by-reply (seek r t 0 x) (λ q e. rw (take-length x, e)) (λ k e. rw (take-length x, e))
 
   -- a tag refused with 11 in some bytes is refused with 11 wherever these bytes stand
-  pub walked-at : (x : List ℕ) → lookup r x (t ∷ []) ≡ refused 11 → (a : ℕ) → seek r t a x ≡ refused 11
+  pub walked-at : (x : List ℕ) → plain (lookup r x (t ∷ [])) ≡ refused 11 → (a : ℕ) → numberOnly (seek r t a x) ≡ refused 11
   walked-at x h =
-      by-passed-objects r t (λ _ x. (a : ℕ) → seek r t a x ≡ refused 11) (λ _ a. seek-refused r t a [] 11 (object-none r))
-      (λ _ x o e other further a. seek-next r t a x o e other ∙ further (a + sizeOf o)) 0 x (sym (one-level x) ∙ h)
+      by-passed-objects r t (λ _ x. (a : ℕ) → numberOnly (seek r t a x) ≡ refused 11)
+      (λ _ a. ap numberOnly (seek-refused r t a [] 11 (object-none r)))
+      (λ _ x o e other further a. ap numberOnly (seek-next r t a x o e other) ∙ further (a + sizeOf o)) 0 x (sym (one-level x) ∙ h)
 
   -- the search goes on after such bytes
-  pub walk-on : (a : ℕ) (x y : List ℕ) → seek r t a x ≡ refused 11 → seek r t a (x ++ y) ≡ seek r t (a + length x) y
+  pub walk-on : (a : ℕ) (x y : List ℕ) → numberOnly (seek r t a x) ≡ refused 11 → seek r t a (x ++ y) ≡ seek r t (a + length x) y
   walk-on a x y =
       by-passed-objects r t (λ a x. seek r t a (x ++ y) ≡ seek r t (a + length x) y) (λ a. rw add-zero) (λ a x o e other further.
       let w = object-inside r x o e in
@@ -100,14 +102,15 @@ module _ (r : Reading) (t : ℕ) where
       seek-next r t a (x ++ y) o read other ∙ rw (drop-append-le k x y (omega arith), ← place) further) a x
 
   -- such bytes are: no bytes; such bytes after such bytes; such bytes and one more object that has another tag
-  pub walked-none : lookup r [] (t ∷ []) ≡ refused 11
-  walked-none = one-level [] ∙ seek-refused r t 0 [] 11 (object-none r)
+  pub walked-none : plain (lookup r [] (t ∷ [])) ≡ refused 11
+  walked-none = one-level [] ∙ ap numberOnly (seek-refused r t 0 [] 11 (object-none r))
 
-  pub walked-append : (x y : List ℕ) → lookup r x (t ∷ []) ≡ refused 11 → lookup r y (t ∷ []) ≡ refused 11 → lookup r (x ++ y) (t ∷ []) ≡ refused 11
-  walked-append x y h g = one-level (x ++ y) ∙ walk-on 0 x y (walked-at x h 0) ∙ walked-at y g (0 + length x)
+  pub walked-append : (x y : List ℕ) → plain (lookup r x (t ∷ [])) ≡ refused 11 → plain (lookup r y (t ∷ [])) ≡ refused 11
+      → plain (lookup r (x ++ y) (t ∷ [])) ≡ refused 11
+  walked-append x y h g = one-level (x ++ y) ∙ ap numberOnly (walk-on 0 x y (walked-at x h 0)) ∙ walked-at y g (0 + length x)
 
-  pub walked-next : (x y : List ℕ) (o : Object) → lookup r x (t ∷ []) ≡ refused 11 → objectOf r y ≡ ok o → (o .tag ≡ t → ⊥)
-      → lookup r (x ++ take (o .at + o .len) y) (t ∷ []) ≡ refused 11
+  pub walked-next : (x y : List ℕ) (o : Object) → plain (lookup r x (t ∷ [])) ≡ refused 11 → objectOf r y ≡ ok o → (o .tag ≡ t → ⊥)
+      → plain (lookup r (x ++ take (o .at + o .len) y) (t ∷ [])) ≡ refused 11
   walked-next x y o h e other =
       let k = sizeOf o in
       let z = take k y in
@@ -115,7 +118,7 @@ module _ (r : Reading) (t : ℕ) where
       let read : objectOf r z ≡ ok o = object-front r y z o e (take-take (o .at) k y (omega arith)) (simp length-take (omega arith)) in
       let empty : drop k z ≡ [] = drop-of-length-le z {i = k} (simp length-take (omega arith)) in
       walked-append x z h
-      (one-level z ∙ seek-next r t 0 z o read other ∙ rw empty (seek-refused r t (0 + k) [] 11 (object-none r)))
+      (one-level z ∙ ap numberOnly (seek-next r t 0 z o read other) ∙ rw empty (ap numberOnly (seek-refused r t (0 + k) [] 11 (object-none r))))
 
 -- the tag of an object is the one that is read at its front
 TagOf : Reading → List ℕ → Object → Type 0
@@ -139,27 +142,24 @@ pub no-tag-sought : (r : Reading) (n : ℕ) → NoTag r n → (a : ℕ) (s : Lis
 unfolding TagOf
 no-tag-sought r n none =
     by-objects r (λ a s. Bytes s → (p : Span) → seek r n a s ≡ ok p → ⊥)
-    (λ a s k e _ p q. refused-not-ok k p (sym (seek-refused r n a s k e) ∙ q)) (λ a s o e _ further small p q.
+    (λ a s k e _ p q. refused-not-ok _ p (sym (seek-refused r n a s k e) ∙ q)) (λ a s o e _ further small p q.
     let t = all-is (TagOf r s) (objectOf r s) o (object-tag r s) e in
     further (bytes-drop (sizeOf o) s small) p (sym (seek-next r n a s o e (λ h. none s small (t .0) (t .1 .0) (t .1 .1 ∙ h))) ∙ q))
 
-no-tag-followed : (r : Reading) (n : ℕ) → NoTag r n → (s : List ℕ) → Bytes s → (before path : List ℕ) (p q : Span)
-    → follow r s p (before ++ (n ∷ path)) ≡ ok q → ⊥
+no-tag-followed : (r : Reading) (n : ℕ) → NoTag r n → (s : List ℕ) → Bytes s → (before path : List ℕ) (m : ℕ) (p : Span) (q : Found)
+    → follow r s m p (before ++ (n ∷ path)) ≡ ok q → ⊥
 unfolding follow
-no-tag-followed r n none s small [] path p q e =
+no-tag-followed r n none s small [] path m p q e =
     by-reply (seek r n (p .at) (part s p)) (λ u f. no-tag-sought r n none (p .at) (part s p) (bytes-take (p .len) (drop (p .at) s) (bytes-drop (p .at) s small)) u f) (λ k f.
-    let stopped : follow r s p (n ∷ path) ≡ refused k = rw f in
-    refused-not-ok k q (sym stopped ∙ e))
-no-tag-followed r n none s small (t ∷ before) path p q e =
+    refused-not-ok _ q (rw f at e))
+no-tag-followed r n none s small (t ∷ before) path m p q e =
     by-reply (seek r t (p .at) (part s p)) (λ u f.
-    let entered : follow r s p (t ∷ (before ++ (n ∷ path))) ≡ follow r s u (before ++ (n ∷ path)) = rw f in
-    no-tag-followed r n none s small before path u q (sym entered ∙ e)) (λ k f.
-    let stopped : follow r s p (t ∷ (before ++ (n ∷ path))) ≡ refused k = rw f in
-    refused-not-ok k q (sym stopped ∙ e))
+    no-tag-followed r n none s small before path (m + 1) u q (rw f at e)) (λ k f.
+    refused-not-ok _ q (rw f at e))
 
-pub no-tag-found : (r : Reading) (n : ℕ) → NoTag r n → (s before path : List ℕ) → Bytes s → (p : Span)
+pub no-tag-found : (r : Reading) (n : ℕ) → NoTag r n → (s before path : List ℕ) → Bytes s → (p : Found)
     → lookup r s (before ++ (n ∷ path)) ≡ ok p → ⊥
-no-tag-found r n none s before path small p e = no-tag-followed r n none s small before path (wholeRecord s) p e
+no-tag-found r n none s before path small p e = no-tag-followed r n none s small before path 0 (wholeRecord s) p e
 
 -- A number above three bytes is no tag.
 pub above-three-bytes : (r : Reading) (n : ℕ) → 0xFFFFFF < n → NoTag r n

@@ -136,7 +136,7 @@ module _ (r : Reading) (s : List ℕ) (bytes : (i : ℕ) → getD s i 0 < 256) (
   unfolding follow
   written-found =
       let w = written (t .number) v ++ u in
-      let found : lookup r w (t .number ∷ []) ≡ ok (record { at = objectFor (t .number) v .at; len = length v }) =
+      let found : lookup r w (t .number ∷ []) ≡ ok (record { at = objectFor (t .number) v .at; len = length v; matched = 1 }) =
       rw (take-length w, seek-here r (t .number) 0 w (objectFor (t .number) v) (written-read .object) refl, zero-add) in
       rw found (written-read .value)
 

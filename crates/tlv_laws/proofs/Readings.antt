@@ -12,17 +12,18 @@ use lib.Seq.{drop-drop}
 use borrow.Author.Tests.{ltb-false, leb-true, eqb-true, eqb-false, le-leb, lt-leb, eq-eqb, ne-eqb}
 use Rattle.basis.specs.Differ.{Differ}
 use Rattle.basis.specs.Reply.{ok, refused}
-use Rattle.basis.proofs.Reply.{All, by-reply, all-is, then-same, all-self}
+use Rattle.basis.proofs.Reply.{All, by-reply, all-is}
 use Rattle.basis.proofs.Truth.{both-true, on-cond}
 use Rattle.tlv.specs.Tag.{Tag, inRange, tagSize, crateTagSize, standardTagSize, thirdByte, crateThirdByte, threeBytes, longTag, tagOf}
 use Rattle.tlv.specs.Object.{sizeOf, objectOf}
 use Rattle.tlv.specs.Walk.{walk}
-use Rattle.tlv.specs.Lookup.{Span, part, wholeRecord, seek, follow, lookup}
+use Rattle.tlv.specs.Lookup.{Span, part, wholeRecord, seek, Found, foundBy, spanOf, follow, lookup}
 use Rattle.tlv.proofs.InRange.{inside, below, above}
 use Rattle.tlv.proofs.Tags.{tag-two, tag-three, by-tag}
 use Rattle.tlv.proofs.Walk.{walk-refused, walk-met, by-objects, seek-refused, seek-is}
 use Rattle.tlv.specs.declared.Reading.the-variants.{Crate, Standard}
 use Rattle.tlv_laws.specs.Readings.{isOrFF, secondDiffers, thirdDiffers, tagDiffers, meetsOf, meetsAt, meetsFrom, meets}
+use Rattle.tlv_laws.specs.Plain.{plain}
 use Rattle.tlv_laws.specs.Value.{ofValue}
 use Rattle.tlv_laws.proofs.TruthValues.{by-test, same-cond, neither, not-true-false}
 use Rattle.tlv_laws.proofs.Boundary.{walked-none, walked-append, walked-next}
@@ -230,7 +231,7 @@ module _ (t : ℕ) (l : List ℕ) where
   -- none is met if none stands after whole objects without the tag (bytes in which the tag is refused with 11)
   abbrev None : ℕ → List ℕ → Type 0
   None a s =
-      drop a l ≡ s → ((x y : List ℕ) → s ≡ x ++ y → lookup Crate x (t ∷ []) ≡ refused 11 → tagDiffers y ≡ false) → Met a s ≡ false
+      drop a l ≡ s → ((x y : List ℕ) → s ≡ x ++ y → plain (lookup Crate x (t ∷ [])) ≡ refused 11 → tagDiffers y ≡ false) → Met a s ≡ false
 
 level-none : (t : ℕ) (l : List ℕ) (a : ℕ) (s : List ℕ) → None t l a s
 unfolding meetsOf
@@ -247,35 +248,35 @@ level-none t l =
     h (take k s ++ x) y (sym (take-append-drop k s) ∙ rw (q, append-assoc))
     (walked-append Crate t (take k s) x (walked-next Crate t [] s o (walked-none Crate t) e (eqb-false (o .tag) t g)) z))))))
 
-follow-alike : (s : List ℕ) (p : Span) (path : List ℕ) → meetsFrom s p path ≡ false
-    → follow Crate s p path ≡ follow Standard s p path
+follow-alike : (s : List ℕ) (m : ℕ) (p : Span) (path : List ℕ) → meetsFrom s p path ≡ false
+    → follow Crate s m p path ≡ follow Standard s m p path
 unfolding meetsFrom meetsAt follow
-follow-alike s p [] e = refl
-follow-alike s p (t ∷ path) e =
+follow-alike s m p [] e = refl
+follow-alike s m p (t ∷ path) e =
     let x = seek Crate t (p .at) (part s p) in
-    let m = neither (meetsAt t (part s p)) (ofValue x false (λ q. meetsFrom s q path)) e in
-    rw (← level-alike t (part s p) 0 (part s p) (p .at) refl (m .0))
-    (then-same (λ q. x ≡ ok q) x _ _ (all-self x) (λ q h. follow-alike s q path (rw h at (m .1))))
+    let n = neither (meetsAt t (part s p)) (ofValue x false (λ q. meetsFrom s q path)) e in
+    rw (← level-alike t (part s p) 0 (part s p) (p .at) refl (n .0))
+    (by-reply x (λ q h. rw h (follow-alike s (m + 1) q path (rw h at (n .1)))) (λ k h. rw h))
 
 pub lookups-alike : (s path : List ℕ) → meets s path ≡ false → lookup Crate s path ≡ lookup Standard s path
-lookups-alike s path = follow-alike s (wholeRecord s) path
+lookups-alike s path = follow-alike s 0 (wholeRecord s) path
 
-path-none : (s : List ℕ) (p : Span) (path : List ℕ)
-    → ((front rest : List ℕ) (t : ℕ) (q : Span) (x y : List ℕ) → path ≡ front ++ (t ∷ rest) → follow Crate s p front ≡ ok q
-    → part s q ≡ x ++ y → lookup Crate x (t ∷ []) ≡ refused 11 → tagDiffers y ≡ false)
+path-none : (s : List ℕ) (n : ℕ) (p : Span) (path : List ℕ)
+    → ((front rest : List ℕ) (t : ℕ) (q : Found) (x y : List ℕ) → path ≡ front ++ (t ∷ rest) → follow Crate s n p front ≡ ok q
+    → part s (spanOf q) ≡ x ++ y → plain (lookup Crate x (t ∷ [])) ≡ refused 11 → tagDiffers y ≡ false)
     → meetsFrom s p path ≡ false
 unfolding meetsFrom meetsAt follow
-path-none s p [] h = refl
-path-none s p (t ∷ path) h =
-    rw (level-none t (part s p) 0 (part s p) refl (λ x y. h [] path t p x y refl refl))
+path-none s n p [] h = refl
+path-none s n p (t ∷ path) h =
+    rw (level-none t (part s p) 0 (part s p) refl (λ x y. h [] path t (foundBy n p) x y refl refl))
     (by-reply (seek Crate t (p .at) (part s p)) (λ q e.
-    rw e (path-none s q path (λ front rest u m x y parts entered.
+    rw e (path-none s (n + 1) q path (λ front rest u m x y parts entered.
     h (t ∷ front) rest u m x y (ap (λ (l : List ℕ). t ∷ l) parts) (rw e entered))))
     (λ k e. rw e))
 
 -- so none is met if none stands at a place to which the lookup comes, at any level of the path
 pub meets-none : (s path : List ℕ)
-    → ((front rest : List ℕ) (t : ℕ) (p : Span) (x y : List ℕ) → path ≡ front ++ (t ∷ rest) → lookup Crate s front ≡ ok p
-    → part s p ≡ x ++ y → lookup Crate x (t ∷ []) ≡ refused 11 → tagDiffers y ≡ false)
+    → ((front rest : List ℕ) (t : ℕ) (p : Found) (x y : List ℕ) → path ≡ front ++ (t ∷ rest) → lookup Crate s front ≡ ok p
+    → part s (spanOf p) ≡ x ++ y → plain (lookup Crate x (t ∷ [])) ≡ refused 11 → tagDiffers y ≡ false)
     → meets s path ≡ false
-meets-none s path = path-none s (wholeRecord s) path
+meets-none s path = path-none s 0 (wholeRecord s) path

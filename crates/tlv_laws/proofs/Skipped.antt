@@ -11,12 +11,12 @@ use lib.ListN.{length, getD, take, drop, length-take, length-drop}
 use lib.Seq.{getD-take, getD-drop, ext-getD, length-take-le}
 use borrow.Author.Tests.{lt-ltb, ne-eqb}
 use Rattle.basis.specs.Reply.{ok, refused}
-use Rattle.basis.proofs.Reply.{All, by-reply, all-is, all-cond, all-weaken, then-same, refused-not-ok, all-self, all-both}
+use Rattle.basis.proofs.Reply.{All, by-reply, all-is, all-cond, all-weaken, refused-not-ok, all-both}
 use Rattle.basis.proofs.Truth.{on-cond}
-use Rattle.tlv.specs.Object.{Object, sizeOf, objectOf}
-use Rattle.tlv.specs.Lookup.{Span, part, wholeRecord, seek, follow, lookup}
+use Rattle.tlv.specs.Object.{Object, sizeOf, objectOf, Stop}
+use Rattle.tlv.specs.Lookup.{Span, part, wholeRecord, seek, Found, Halt, foundBy, spanOf, follow, lookup}
 use Rattle.tlv.specs.declared.Reading.{Reading}
-use Rattle.tlv.proofs.Walk.{walk-refused, walk-met, by-objects, seek-refused, seek-is, Lies, seek-inside}
+use Rattle.tlv.proofs.Walk.{walk-refused, walk-met, by-objects, seek-refused, seek-is, Lies, FoundIn, seek-inside}
 use Rattle.basis.specs.Every.{Every}
 use Rattle.basis.proofs.Every.{every-append, every-weaken}
 use Rattle.tlv_laws.specs.Skipped.{passedOf, passedAt, passedFrom, passed, lastFrom, lastEntered, endOf}
@@ -141,7 +141,7 @@ pub passed-found : (r : Reading) (s : List ℕ) (p : Span) (t : ℕ) (path : Lis
 unfolding passedFrom
 passed-found r s p t path q e = rw e
 
-pub passed-refused : (r : Reading) (s : List ℕ) (p : Span) (t : ℕ) (path : List ℕ) (k : ℕ) → seek r t (p .at) (part s p) ≡ refused k
+pub passed-refused : (r : Reading) (s : List ℕ) (p : Span) (t : ℕ) (path : List ℕ) (e : Stop) → seek r t (p .at) (part s p) ≡ refused e
     → passedFrom r s p (t ∷ path) ≡ passedAt r t (p .at) (part s p)
 unfolding passedFrom
 passed-refused r s p t path k e = rw (e, append-nil)
@@ -162,32 +162,33 @@ passed-from r s p (t ∷ path) =
     (λ k e. rw (passed-refused r s p t path k e) level)
 
 -- it stands before the value found
-follow-outside : (r : Reading) (s : List ℕ) (p : Span) (path : List ℕ)
-    → All (λ q. Every (Before q) (passedFrom r s p path)) (follow r s p path)
+follow-outside : (r : Reading) (s : List ℕ) (n : ℕ) (p : Span) (path : List ℕ)
+    → All (λ q. Every (Before (spanOf q)) (passedFrom r s p path)) (follow r s n p path)
 unfolding follow
-follow-outside r s p [] = rw (passed-nothing r s p) tt
-follow-outside r s p (t ∷ path) =
+follow-outside r s n p [] = rw (passed-nothing r s p) tt
+follow-outside r s n p (t ∷ path) =
     let b = part s p in
     let x = seek r t (p .at) b in
     by-reply x (λ m e.
     let deeper = passedFrom r s m path in
     let here = passedAt r t (p .at) b in
-    let y = follow r s m path in
-    let L = Lies (m .at) (m .at + m .len) in
-    rw (e, passed-found r s p t path m e) (all-weaken (λ q. Every (Before q) (here ++ deeper)) (λ q. L q × Every (Before q) deeper) y (λ q h.
-    every-append (Before q) here deeper
-    (every-weaken (Before q) (Before m) here (λ z f. omega arith) (level-before r t (p .at) b m e)) (h .1))
-    (all-both L (λ q. Every (Before q) deeper) y (follow-inside r s m path) (follow-outside r s m path))))
+    let y = follow r s (n + 1) m path in
+    let L = FoundIn (m .at) (m .at + m .len) in
+    let D : Found → Type 0 = λ q. Every (Before (spanOf q)) deeper in
+    rw (e, passed-found r s p t path m e) (all-weaken (λ q. Every (Before (spanOf q)) (here ++ deeper)) (λ q. L q × D q) y (λ q h.
+    every-append (Before (spanOf q)) here deeper
+    (every-weaken (Before (spanOf q)) (Before m) here (λ z f. omega arith) (level-before r t (p .at) b m e)) (h .1))
+    (all-both L D y (follow-inside r s (n + 1) m path) (follow-outside r s (n + 1) m path))))
     (λ k e. rw e tt)
 
-pub lookup-outside : (r : Reading) (s path : List ℕ) (p : Span) → lookup r s path ≡ ok p → Every (Before p) (passed r s path)
+pub lookup-outside : (r : Reading) (s path : List ℕ) (p : Found) → lookup r s path ≡ ok p → Every (Before (spanOf p)) (passed r s path)
 lookup-outside r s path p e =
-    all-is (λ p. Every (Before p) (passed r s path)) (lookup r s path) p (follow-outside r s (wholeRecord s) path) e
+    all-is (λ p. Every (Before (spanOf p)) (passed r s path)) (lookup r s path) p (follow-outside r s 0 (wholeRecord s) path) e
 
 -- the value found does not lie in a value passed over: every place of those stands before it
-pub found-outside : (r : Reading) (s path : List ℕ) (p : Span) → lookup r s path ≡ ok p → (i : ℕ)
+pub found-outside : (r : Reading) (s path : List ℕ) (p : Found) → lookup r s path ≡ ok p → (i : ℕ)
     → coveredBy (passed r s path) i ≡ true → i < p .at
-found-outside r s path p e i = covered-before p (passed r s path) i (lookup-outside r s path p e)
+found-outside r s path p e i = covered-before (spanOf p) (passed r s path) i (lookup-outside r s path p e)
 
 -- the places that a path passes over: those of its first level, and those of its rest in the value found there
 module _ (r : Reading) (s : List ℕ) (i : ℕ) where
@@ -205,35 +206,37 @@ module _ (r : Reading) (s : List ℕ) (i : ℕ) where
       rw (passed-found r s p t path q e) (covered-right (passedAt r t (p .at) (part s p)) (passedFrom r s q path) i h)
 
   -- the same for the value that the first tags of a path lead to
-  pub passed-entered : (front rest : List ℕ) (p q : Span) → follow r s p front ≡ ok q → coveredBy (passedFrom r s q rest) i ≡ true
-      → coveredBy (passedFrom r s p (front ++ rest)) i ≡ true
+  pub passed-entered : (front rest : List ℕ) (n : ℕ) (p : Span) (q : Found) → follow r s n p front ≡ ok q
+      → coveredBy (passedFrom r s (spanOf q) rest) i ≡ true → coveredBy (passedFrom r s p (front ++ rest)) i ≡ true
   unfolding follow
-  passed-entered [] rest p q e h = let same : p ≡ q = cc in rw same h
-  passed-entered (t ∷ front) rest p q e h =
+  passed-entered [] rest n p q e h = let same : foundBy n p ≡ q = cc in rw (ap spanOf same) h
+  passed-entered (t ∷ front) rest n p q e h =
       by-reply (seek r t (p .at) (part s p))
-      (λ m g. passed-deeper p t (front ++ rest) m g (passed-entered front rest m q (rw g at e) h))
-      (λ k g. absurd (refused-not-ok k q (rw g at e)))
+      (λ m g. passed-deeper p t (front ++ rest) m g (passed-entered front rest (n + 1) m q (rw g at e) h))
+      (λ k g. absurd (refused-not-ok _ q (rw g at e)))
 
 -- the part entered last: the value found, or the part in which a tag of the path is refused
-last-append : (r : Reading) (s : List ℕ) (p : Span) (path rest : List ℕ)
-    → All (λ q. lastFrom r s p (path ++ rest) ≡ lastFrom r s q rest) (follow r s p path)
+last-append : (r : Reading) (s : List ℕ) (n : ℕ) (p : Span) (path rest : List ℕ)
+    → All (λ q. lastFrom r s p (path ++ rest) ≡ lastFrom r s (spanOf q) rest) (follow r s n p path)
 unfolding lastFrom follow
-last-append r s p [] rest = refl
-last-append r s p (t ∷ path) rest =
-    by-reply (seek r t (p .at) (part s p)) (λ m e. rw e (last-append r s m path rest)) (λ k e. rw e tt)
+last-append r s n p [] rest = refl
+last-append r s n p (t ∷ path) rest =
+    by-reply (seek r t (p .at) (part s p)) (λ m e. rw e (last-append r s (n + 1) m path rest)) (λ k e. rw e tt)
 
-module _ (r : Reading) (s path : List ℕ) (p : Span) (e : lookup r s path ≡ ok p) where
-  last-rest : (rest : List ℕ) → lastEntered r s (path ++ rest) ≡ lastFrom r s p rest
+module _ (r : Reading) (s path : List ℕ) (p : Found) (e : lookup r s path ≡ ok p) where
+  last-rest : (rest : List ℕ) → lastEntered r s (path ++ rest) ≡ lastFrom r s (spanOf p) rest
   last-rest rest =
-      all-is (λ q. lastEntered r s (path ++ rest) ≡ lastFrom r s q rest) (lookup r s path) p (last-append r s (wholeRecord s) path rest) e
+      all-is (λ q. lastEntered r s (path ++ rest) ≡ lastFrom r s (spanOf q) rest) (lookup r s path) p
+      (last-append r s 0 (wholeRecord s) path rest) e
 
-  pub last-found : lastEntered r s path ≡ p
+  pub last-found : lastEntered r s path ≡ spanOf p
   unfolding lastFrom
   last-found = rw append-nil at (last-rest [])
 
-  pub last-refused : (t k : ℕ) (rest : List ℕ) → seek r t (p .at) (part s p) ≡ refused k → lastEntered r s (path ++ (t ∷ rest)) ≡ p
+  pub last-refused : (t : ℕ) (z : Stop) (rest : List ℕ) → seek r t (p .at) (part s (spanOf p)) ≡ refused z
+      → lastEntered r s (path ++ (t ∷ rest)) ≡ spanOf p
   unfolding lastFrom
-  last-refused t k rest h = last-rest (t ∷ rest) ∙ rw h
+  last-refused t z rest h = last-rest (t ∷ rest) ∙ rw h
 
 -- it does not start before the part in which the path starts
 last-from : (r : Reading) (s : List ℕ) (p : Span) (path : List ℕ) → p .at ≤ lastFrom r s p path .at
@@ -249,12 +252,12 @@ last-from r s p (t ∷ path) =
 
 module _ (r : Reading) (s : List ℕ) where
   -- a place that the path from p on looks at: its first level looks at it, or a deeper level
-  abbrev LookedFrom : Span → List ℕ → ℕ → Type 0
-  LookedFrom p path i =
-      (coveredBy (passedFrom r s p path) i ≡ false) × (i < endOf (lastFrom r s p path)) × All (λ q. i < q .at) (follow r s p path)
+  abbrev LookedFrom : ℕ → Span → List ℕ → ℕ → Type 0
+  LookedFrom n p path i =
+      (coveredBy (passedFrom r s p path) i ≡ false) × (i < endOf (lastFrom r s p path)) × All (λ q. i < q .at) (follow r s n p path)
 
-  module _ (p : Span) (t : ℕ) (path : List ℕ) (i : ℕ) where
-    looked-level : i < endOf p → Looked r t (p .at) (part s p) i → LookedFrom p (t ∷ path) i
+  module _ (n : ℕ) (p : Span) (t : ℕ) (path : List ℕ) (i : ℕ) where
+    looked-level : i < endOf p → Looked r t (p .at) (part s p) i → LookedFrom n p (t ∷ path) i
     unfolding follow coveredBy lastFrom
     looked-level h l =
         let x = seek r t (p .at) (part s p) in
@@ -267,12 +270,13 @@ module _ (r : Reading) (s : List ℕ) where
               (every-weaken (λ q. covers q i ≡ false) (λ q. m .at ≤ q .at) deeper
               (λ q g. covers-ahead q i (omega arith)) (passed-from r s m path))),
           omega (arith, last-from r s m path),
-          all-weaken (λ q. i < q .at) (Lies (m .at) (m .at + m .len)) (follow r s m path) (λ q g. omega arith)
-              (follow-inside r s m path),
+          all-weaken (λ q. i < q .at) (FoundIn (m .at) (m .at + m .len)) (follow r s (n + 1) m path) (λ q g. omega arith)
+              (follow-inside r s (n + 1) m path),
         ))
         (λ k e. rw (passed-refused r s p t path k e, e) (l .0, h, tt))
 
-    looked-deeper : (m : Span) → seek r t (p .at) (part s p) ≡ ok m → m .at ≤ i → LookedFrom m path i → LookedFrom p (t ∷ path) i
+    looked-deeper : (m : Span) → seek r t (p .at) (part s p) ≡ ok m → m .at ≤ i → LookedFrom (n + 1) m path i
+        → LookedFrom n p (t ∷ path) i
     unfolding follow lastFrom
     looked-deeper m e h l =
         let here = passedAt r t (p .at) (part s p) in
@@ -285,12 +289,12 @@ module _ (r : Reading) (s : List ℕ) where
 
   -- a record of the same length that agrees at every place that the path looks at
   module _ (s′ : List ℕ) (long : length s′ ≡ length s) where
-    follow-unseen : (path : List ℕ) (p : Span) → p .at + p .len ≤ length s
-        → ((i : ℕ) → p .at ≤ i → i < p .at + p .len → LookedFrom p path i → getD s′ i 0 ≡ getD s i 0)
-        → follow r s′ p path ≡ follow r s p path
+    follow-unseen : (path : List ℕ) (n : ℕ) (p : Span) → p .at + p .len ≤ length s
+        → ((i : ℕ) → p .at ≤ i → i < p .at + p .len → LookedFrom n p path i → getD s′ i 0 ≡ getD s i 0)
+        → follow r s′ n p path ≡ follow r s n p path
     unfolding follow
-    follow-unseen [] p h same = refl
-    follow-unseen (t ∷ path) p h same =
+    follow-unseen [] n p h same = refl
+    follow-unseen (t ∷ path) n p h same =
         let b = part s p in
         let b′ = part s′ p in
         let x = seek r t (p .at) b in
@@ -299,26 +303,28 @@ module _ (r : Reading) (s : List ℕ) where
         let byte : (l : List ℕ) (i : ℕ) → i < p .len → getD (part l p) i 0 ≡ getD l (p .at + i) 0 = λ l i g.
         getD-take (p .len) (drop (p .at) l) i 0 g ∙ getD-drop (p .at) l i 0 in
         let level : seek r t (p .at) b′ ≡ x = seek-unseen r t (p .at) b b′ size′ (λ i g l.
-        byte s′ i (omega arith) ∙ same (p .at + i) (omega arith) (omega arith) (looked-level p t path (p .at + i) (omega arith) l)
+        byte s′ i (omega arith) ∙ same (p .at + i) (omega arith) (omega arith) (looked-level n p t path (p .at + i) (omega arith) l)
         ∙ sym (byte s i (omega arith))) in
-        rw level (then-same (λ m. x ≡ ok m) x _ _ (all-self x) (λ m e.
+        rw level (by-reply x (λ m e.
         let w = seek-inside r b t (p .at) m e in
-        follow-unseen path m (omega arith) (λ i g f l. same i (omega arith) (omega arith) (looked-deeper p t path i m e g l))))
+        rw e (follow-unseen path (n + 1) m (omega arith) (λ i g f l.
+        same i (omega arith) (omega arith) (looked-deeper n p t path i m e g l))))
+        (λ k e. rw e))
 
 -- the place up to which a lookup looks
-pub seen-to-found : (r : Reading) (s path : List ℕ) (p : Span) → lookup r s path ≡ ok p → seenTo r s path ≡ p .at
+pub seen-to-found : (r : Reading) (s path : List ℕ) (p : Found) → lookup r s path ≡ ok p → seenTo r s path ≡ p .at
 seen-to-found r s path p e = rw e (omega arith)
 
-pub seen-to-refused : (r : Reading) (s path : List ℕ) (k : ℕ) → lookup r s path ≡ refused k
+pub seen-to-refused : (r : Reading) (s path : List ℕ) (k : Halt) → lookup r s path ≡ refused k
     → seenTo r s path ≡ lastEntered r s path .at + lastEntered r s path .len
 seen-to-refused r s path k e = rw e (omega arith)
 
--- a lookup depends only on the bytes that it looks at: those outside of the values passed over, and before the value
--- found or, if it is refused, before the end of the part entered last
+-- the whole reply of a lookup depends only on the bytes that it looks at: those outside of the values passed over, and
+-- before the value found or, if it is refused, before the end of the part entered last
 pub unseen : (r : Reading) (s s′ path : List ℕ) → length s′ ≡ length s
     → ((i : ℕ) → i < length s → seen r s path i ≡ true → getD s′ i 0 ≡ getD s i 0) → lookup r s′ path ≡ lookup r s path
 unseen r s s′ path long same =
-    rw long (follow-unseen r s s′ long path (wholeRecord s) (omega arith) (λ i _ h l.
+    rw long (follow-unseen r s s′ long path 0 (wholeRecord s) (omega arith) (λ i _ h l.
     let before : i < seenTo r s path = by-reply (lookup r s path)
     (λ p e. omega (arith, seen-to-found r s path p e, all-is (λ q. i < q .at) (lookup r s path) p (l .2) e))
     (λ k e. omega (arith, seen-to-refused r s path k e)) in

@@ -14,10 +14,11 @@ use Rattle.basis.specs.Over.{overAt}
 use Rattle.basis.proofs.Reply.{by-reply, refused-not-ok}
 use Rattle.basis.proofs.Over.{length-over-at}
 use Rattle.tlv.specs.Object.{Object, sizeOf, objectOf}
-use Rattle.tlv.specs.Lookup.{Span, part, wholeRecord, seek, follow, lookup, valueIn}
+use Rattle.tlv.specs.Lookup.{Span, part, wholeRecord, seek, Found, Halt, foundBy, spanOf, follow, lookup, valueIn}
 use Rattle.tlv.specs.declared.Reading.{Reading}
 use Rattle.tlv.proofs.Within.{object-inside}
 use Rattle.tlv.proofs.Walk.{lookup-inside}
+use Rattle.tlv_laws.specs.Plain.{numberOnly, plain}
 use Rattle.tlv_laws.specs.Skipped.{passedAt, passed, lastEntered, coveredBy, aside, refill}
 use Rattle.tlv_laws.proofs.FrontOfBytes.{object-front}
 use Rattle.tlv_laws.proofs.AfterMatch.{follow-append}
@@ -27,7 +28,7 @@ use Rattle.tlv_laws.proofs.Skipped.{passed-next, passed-level, passed-e
 use Rattle.tlv_laws.proofs.Aside.{passed-aside, after-aside, aside-unseen, aside-value, refilled-byte}
 
 -- what is passed over after whole objects with other tags is passed over by the search that begins with these objects
-passed-on : (r : Reading) (t i : ℕ) (y : List ℕ) (a : ℕ) (x : List ℕ) → seek r t a x ≡ refused 11
+passed-on : (r : Reading) (t i : ℕ) (y : List ℕ) (a : ℕ) (x : List ℕ) → numberOnly (seek r t a x) ≡ refused 11
     → coveredBy (passedAt r t (a + length x) y) i ≡ true → coveredBy (passedAt r t a (x ++ y)) i ≡ true
 passed-on r t i y =
     by-passed-objects r t (λ a x. coveredBy (passedAt r t (a + length x) y) i ≡ true → coveredBy (passedAt r t a (x ++ y)) i ≡ true)
@@ -64,17 +65,17 @@ outside a v s h i off =
 -- A value that a path passes over: the tags of the path before t lead to the part p. The first bytes x of that part are
 -- whole objects, none of them with tag t, since t is refused in them with 11. The object o after them has another tag,
 -- and its value stands at place a of the record.
-module _ (r : Reading) (s path front rest : List ℕ) (t : ℕ) (p : Span) (x y : List ℕ) (o : Object) (a : ℕ)
-    (parts : path ≡ front ++ (t ∷ rest)) (entered : lookup r s front ≡ ok p) (level : part s p ≡ x ++ y)
-    (walked : lookup r x (t ∷ []) ≡ refused 11) (object : objectOf r y ≡ ok o) (other : o .tag ≡ t → ⊥)
+module _ (r : Reading) (s path front rest : List ℕ) (t : ℕ) (p : Found) (x y : List ℕ) (o : Object) (a : ℕ)
+    (parts : path ≡ front ++ (t ∷ rest)) (entered : lookup r s front ≡ ok p) (level : part s (spanOf p) ≡ x ++ y)
+    (walked : plain (lookup r x (t ∷ [])) ≡ refused 11) (object : objectOf r y ≡ ok o) (other : o .tag ≡ t → ⊥)
     (place : a ≡ p .at + length x + o .at) where
   -- each place of that value is passed over
   pub value-passed : (i : ℕ) → a ≤ i → i < a + o .len → coveredBy (passed r s path) i ≡ true
   value-passed i h g =
       let here : coveredBy (passedAt r t (p .at + length x) y) i ≡ true =
       rw (passed-next r t (p .at + length x) y o object other) (covered-first _ _ i (omega arith) (omega arith)) in
-      rw parts (passed-entered r s i front (t ∷ rest) (wholeRecord s) p entered
-      (passed-level r s i p t rest (rw level (passed-on r t i y (p .at) x (walked-at r t x walked (p .at)) here))))
+      rw parts (passed-entered r s i front (t ∷ rest) 0 (wholeRecord s) p entered
+      (passed-level r s i (spanOf p) t rest (rw level (passed-on r t i y (p .at) x (walked-at r t x walked (p .at)) here))))
 
   value-inside : a + o .len ≤ length s
   value-inside =
@@ -88,7 +89,7 @@ module _ (r : Reading) (s path front rest : List ℕ) (t : ℕ) (p : Span) (x y 
       refilled-byte f r s path i (omega (arith, value-inside)) ∙ rw (passed-aside r s path i (value-passed i h g))
 
   -- nothing in that value is found
-  pub value-not-found : (q : Span) → lookup r s path ≡ ok q → (i : ℕ) → a ≤ i → i < a + o .len → i < q .at
+  pub value-not-found : (q : Found) → lookup r s path ≡ ok q → (i : ℕ) → a ≤ i → i < a + o .len → i < q .at
   value-not-found q e i h g = found-outside r s path q e i (value-passed i h g)
 
   -- whatever bytes v of that length stand there instead, the lookup is the same and shows the same value
@@ -110,18 +111,17 @@ module _ (r : Reading) (s path front rest : List ℕ) (t : ℕ) (p : Span) (x y 
     value-shown = rw (← size) (aside-value r s path (overAt a v s) (length-over-at a v s fits) (λ i _. same i))
 
 -- after the value found, and after the part in which a tag is refused, `refill` has the bytes of f
-module _ (f : ℕ → ℕ) (r : Reading) (s path : List ℕ) (p : Span) (i : ℕ) (h : p .at + p .len ≤ i) (g : i < length s) where
-  placed-after : lastEntered r s path ≡ p → getD (refill f r s path) i 0 ≡ f i
+module _ (f : ℕ → ℕ) (r : Reading) (s path : List ℕ) (p : Found) (i : ℕ) (h : p .at + p .len ≤ i) (g : i < length s) where
+  placed-after : lastEntered r s path ≡ spanOf p → getD (refill f r s path) i 0 ≡ f i
   placed-after e = refilled-byte f r s path i g ∙ rw (after-aside r s path i (rw e h) g)
 
   pub after-found : lookup r s path ≡ ok p → getD (refill f r s path) i 0 ≡ f i
   after-found e = placed-after (last-found r s path p e)
 
-  pub after-refused : (front rest : List ℕ) (t k : ℕ) → path ≡ front ++ (t ∷ rest) → lookup r s front ≡ ok p
-      → lookup r s (front ++ (t ∷ [])) ≡ refused k → getD (refill f r s path) i 0 ≡ f i
+  pub after-refused : (front rest : List ℕ) (t : ℕ) (z : Halt) → path ≡ front ++ (t ∷ rest) → lookup r s front ≡ ok p
+      → lookup r s (front ++ (t ∷ [])) ≡ refused z → getD (refill f r s path) i 0 ≡ f i
   unfolding follow
-  after-refused front rest t k parts e z =
-      let last : seek r t (p .at) (part s p) ≡ refused k = by-reply (seek r t (p .at) (part s p))
-      (λ q d. absurd (refused-not-ok k q (sym z ∙ follow-append r s (wholeRecord s) front (t ∷ []) ∙ rw (e, d))))
-      (λ j d. d ∙ cc (follow-append r s (wholeRecord s) front (t ∷ []))) in
-      placed-after (rw parts (last-refused r s front p e t k rest last))
+  after-refused front rest t z parts e stopped =
+      let one = sym stopped ∙ follow-append r s 0 (wholeRecord s) front (t ∷ []) in
+      by-reply (seek r t (p .at) (part s (spanOf p))) (λ q d. absurd (refused-not-ok z (foundBy (p .matched + 1) q) (one ∙ rw (e, d))))
+      (λ j d. placed-after (rw parts (last-refused r s front p e t j rest d)))

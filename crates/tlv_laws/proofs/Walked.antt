@@ -7,9 +7,9 @@ use native.Mathlib.Nat.{add-assoc, add-sub-cancel-left}
 use native.Mathlib.Omega.{arith}
 use lib.ListN.{length, drop, length-drop}
 use lib.Seq.{drop-drop}
-use Rattle.basis.specs.Reply.{ok}
-use Rattle.tlv.specs.Object.{Object, sizeOf}
-use Rattle.tlv.specs.Walk.{Item, Stop, Walk, itemAt, withItem, walk}
+use Rattle.basis.specs.Reply.{ok, refused}
+use Rattle.tlv.specs.Object.{Object, sizeOf, objectOf, Item, Stop, itemAt}
+use Rattle.tlv.specs.Walk.{Walk, withItem, walk}
 use Rattle.tlv.specs.declared.Reading.{Reading}
 use Rattle.tlv.proofs.Walk.{walk-refused, walk-met, by-objects}
 use Rattle.tlv_laws.specs.Walked.{ReadOn}
@@ -17,12 +17,12 @@ use Rattle.tlv_laws.proofs.Boundary.{refused-where}
 
 module _ (r : Reading) (l : List ℕ) where
   -- the walk of bytes s that stand in l from place a on
-  read-on : (a : ℕ) (s : List ℕ) → drop a l ≡ s → ReadOn r l a (walk r a s .items) (walk r a s .stop)
+  pub read-on : (a : ℕ) (s : List ℕ) → drop a l ≡ s → ReadOn r l a (walk r a s .items) (walk r a s .stop)
   read-on =
       by-objects r (λ a s. drop a l ≡ s → ReadOn r l a (walk r a s .items) (walk r a s .stop))
       (λ a s k e d. rw (walk-refused r a s k e) (omega arith, rw d e)) (λ a s o e w deeper d.
       let afterLast = deeper (sym (drop-drop (sizeOf o) a l) ∙ ap (drop (sizeOf o)) d) in
-      rw (walk-met r a s o e) (omega arith, omega arith, rw (d, add-sub-cancel-left) e, rw add-assoc afterLast))
+      rw (walk-met r a s o e) ((omega arith, omega arith, rw (d, add-sub-cancel-left) e), rw add-assoc afterLast))
 
   pub walk-reads : (a : ℕ) → ReadOn r l a (walk r a (drop a l) .items) (walk r a (drop a l) .stop)
   walk-reads a = read-on a (drop a l) refl
@@ -34,12 +34,17 @@ module _ (r : Reading) (l : List ℕ) where
       ∙ sym (walk-refused r a (drop a l) (e .number) (h .1))
   read-only (i ∷ rest) e a h =
       let o : Object = record { tag = i .tag; at = i .at - a; len = i .len } in
-      let end : a + sizeOf o ≡ i .at + i .len = omega arith in
-      let at : a + o .at ≡ i .at = omega arith in
-      let item : i ≡ itemAt a o = λ j. record { place = h .0 j; tag = i .tag; at = sym at j; len = i .len } in
+      let end : a + sizeOf o ≡ i .at + i .len = omega (arith, h .0 .1) in
+      let at : a + o .at ≡ i .at = omega (arith, h .0 .1) in
+      let item : i ≡ itemAt a o = λ j. record { place = h .0 .0 j; tag = i .tag; at = sym at j; len = i .len } in
       let afterLast : record { items = rest; stop = e } ≡ walk r (a + sizeOf o) (drop (sizeOf o) (drop a l)) =
-      rw (drop-drop (sizeOf o) a l, end) (read-only rest e (i .at + i .len) (h .3)) in
-      (λ j. withItem (item j) (afterLast j)) ∙ sym (walk-met r a (drop a l) o (h .2))
+      rw (drop-drop (sizeOf o) a l, end) (read-only rest e (i .at + i .len) (h .1)) in
+      (λ j. withItem (item j) (afterLast j)) ∙ sym (walk-met r a (drop a l) o (h .0 .2))
+
+  -- where a reading stops, one object is refused with that number
+  pub read-stop : (items : List Item) (e : Stop) (a : ℕ) → ReadOn r l a items e → objectOf r (drop (e .place) l) ≡ refused (e .number)
+  read-stop [] e a h = rw (h .0) (h .1)
+  read-stop (i ∷ rest) e a h = read-stop rest e (i .at + i .len) (h .1)
 
   pub walk-only : (a : ℕ) (w : Walk) → ReadOn r l a (w .items) (w .stop) → w ≡ walk r a (drop a l)
   walk-only a w = read-only (w .items) (w .stop) a

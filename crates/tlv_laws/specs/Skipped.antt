@@ -5,7 +5,8 @@ use mathlib.Core.Bool.{Bool, true, false, cond}
 use mathlib.Core.List.{List, [], _∷_, _++_}
 use lib.Dec.{ltb, leb, eqb}
 use lib.ListN.{length}
-use Rattle.tlv.specs.Walk.{Item, walk}
+use Rattle.tlv.specs.Object.{Item}
+use Rattle.tlv.specs.Walk.{walk}
 use Rattle.tlv.specs.Lookup.{Span, part, between, wholeRecord, valueOf, seek, lookup}
 use Rattle.tlv.specs.declared.Reading.{Reading}
 use Rattle.tlv_laws.specs.Value.{ofValue}

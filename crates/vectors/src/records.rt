@@ -6,20 +6,35 @@ use tlv::Reading;
 use tlv::get_data_object;
 use tlv::value;
 
-// Prints the bytes of a value; only `accepted` if no bytes are expected.
-fn show_value(value: &[u8], expected: &[u8]) -> usize {
-    if check::same(expected, b"accepted") {
-        return report::word(expected, 0, b"accepted");
-    }
-    report::hex(expected, 0, value)
+// Prints where a lookup was refused, and how many tags matched.
+fn show_refusal(refusal: &[u8], place: usize, matched: usize, expected: &[u8]) -> usize {
+    let at = report::number(expected, 0, refusal, place);
+    report::number(expected, at, b" matched ", matched)
 }
 
-// Prints what a lookup finds.
+// Prints the bytes of a value, if it has any.
+fn show_bytes(value: &[u8], expected: &[u8], at: usize) -> usize {
+    if value.len() == 0 {
+        return at;
+    }
+    report::hex(expected, report::word(expected, at, b" "), value)
+}
+
+// Prints what a lookup finds: the place, the length and the bytes of the value, and how many tags matched.
 fn show_lookup(reading: Reading, record: &[u8], path: &[u32], expected: &[u8]) -> usize {
     match get_data_object(reading, record, path) {
-        GetDataObject::End => report::word(expected, 0, b"refusal 11"),
-        GetDataObject::Unreadable => report::word(expected, 0, b"refusal 12"),
-        GetDataObject::Value(_, _) => show_value(value(reading, record, path), expected),
+        GetDataObject::End(place, matched) => {
+            show_refusal(b"refusal 11 at ", place, matched, expected)
+        }
+        GetDataObject::Unreadable(place, matched) => {
+            show_refusal(b"refusal 12 at ", place, matched, expected)
+        }
+        GetDataObject::Value(place, len, matched) => {
+            let at = report::number(expected, 0, b"at ", place);
+            let at = report::number(expected, at, b" length ", len);
+            let at = report::number(expected, at, b" matched ", matched);
+            show_bytes(value(reading, record, path), expected, at)
+        }
     }
 }
 
@@ -50,11 +65,16 @@ fn path<'a>(tags: &'a [u32; 8], last: usize) -> &'a [u32] {
     all
 }
 
-// Looks up the path of a line in its record.
+// Looks up the path of a line in its record. A line without a path asks for the empty path.
 fn look_up_line(line: &[u8], record: &[u8]) {
+    let tag_field = text::field(line, 3);
     let mut tags = [0u32; 8];
-    let last = text::numbers(text::field(line, 3), false, &mut tags);
-    show_both_readings(line, record, path(&tags, last));
+    let last = text::numbers(tag_field, false, &mut tags);
+    if tag_field.len() == 0 {
+        show_both_readings(line, record, &tags[..0]);
+    } else {
+        show_both_readings(line, record, path(&tags, last));
+    }
 }
 
 // A line: record; name; bytes; path; expected; expected by the standard.

@@ -16,6 +16,9 @@ pub struct Writes<'a, const N: usize> {
 /// What a call must write, or the number of a refusal that changes nothing.
 pub type Answer<'a, const N: usize> = Result<Writes<'a, N>, u8>;
 
+/// Numbers that are written, also beside the number of a refusal.
+pub type Told<const N: usize> = Result<[u64; N], (u8, [u64; N])>;
+
 impl<'a, const N: usize> Writes<'a, N> {
     /// Numbers, and bytes from a place on.
     #[inline(always)]
@@ -24,12 +27,14 @@ impl<'a, const N: usize> Writes<'a, N> {
         Writes { numbers, at, bytes, refused }
     }
 
-    /// Writes it to the lent buffers, if they are long enough.
+    /// Writes it to the lent buffers, if they are long enough. Otherwise the reply is 16, or the refusal if that is
+    /// smaller.
     #[inline(always)]
     pub fn write(&self, to: &mut [u8], out: &mut [u64]) -> Reply {
-        let end = self.at.checked_add(self.bytes.len()).ok_or(Refused(16))?;
-        let part = to.get_mut(self.at..end).ok_or(Refused(16))?;
-        let front = out.get_mut(..N).ok_or(Refused(16))?;
+        let too_short = Refused(self.refused.map_or(16, |number| number.min(16)));
+        let end = self.at.checked_add(self.bytes.len()).ok_or(too_short)?;
+        let part = to.get_mut(self.at..end).ok_or(too_short)?;
+        let front = out.get_mut(..N).ok_or(too_short)?;
         part.copy_from_slice(&self.bytes);
         front.copy_from_slice(&self.numbers);
         self.refused.map_or(Ok(()), |number| Err(Refused(number)))
@@ -41,6 +46,16 @@ impl<const N: usize> From<[u64; N]> for Writes<'_, N> {
     #[inline(always)]
     fn from(numbers: [u64; N]) -> Self {
         Writes::new(numbers, 0, &[][..])
+    }
+}
+
+/// Only numbers, with the refusal if there is one.
+impl<const N: usize> From<Told<N>> for Writes<'_, N> {
+    fn from(told: Told<N>) -> Self {
+        match told {
+            Ok(numbers) => numbers.into(),
+            Err((number, numbers)) => Writes { refused: Some(number), ..numbers.into() },
+        }
     }
 }
 
@@ -61,6 +76,11 @@ pub fn give<const N: usize>(answer: &Answer<N>, to: &mut [u8], out: &mut [u64]) 
         Err(number) if *number < 16 || *number == 19 || out.len() >= N => Err(Refused(*number)),
         Err(_) => Err(Refused(16)),
     }
+}
+
+/// Whether an answer is no refusal.
+pub fn is_accepted<const N: usize>(answer: &Answer<N>) -> bool {
+    answer.as_ref().is_ok_and(|writes| writes.refused.is_none())
 }
 
 /// The number of a reply, as the exported functions return it: 0, or that of the refusal.

@@ -145,6 +145,18 @@ impl Table {
         for (rust_sample, our_sample) in rust_samples.iter().zip(our_samples) {
             check_sides(name, size, [&|to, out| rust(rust_sample, to, out), &|to, out| ours(our_sample, to, out)]);
         }
+        self.time_sides((name, limit), size, (rust_samples, our_samples), rust, ours);
+    }
+
+    /// The same without the check, for sides that do not write the same.
+    pub fn time_sides<S, T>(
+        &mut self,
+        (name, limit): (&str, f64),
+        size: Size,
+        (rust_samples, our_samples): (&[S], &[T]),
+        rust: impl Fn(&S, &mut [u8], &mut [u64]) -> u8,
+        ours: impl Fn(&T, &mut [u8], &mut [u64]) -> u8,
+    ) {
         let rust = || round(size, rust_samples, &rust);
         let ours = || round(size, our_samples, &ours);
         self.time(name, limit, rust, ours);

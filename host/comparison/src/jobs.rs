@@ -3,6 +3,7 @@
 use std::sync::atomic::{AtomicUsize, Ordering};
 use std::thread;
 
+use crate::loops::pairs;
 use crate::random::Random;
 use crate::tally::Tally;
 
@@ -98,8 +99,15 @@ impl Results {
         }
     }
 
-    /// Prints the counts, and returns whether the run failed.
-    pub fn print(&self) -> bool {
+    /// Prints how often a refusal came, in all or under a label. Returns whether that is too seldom.
+    fn print_refused(&self, number: u8, count: u64, label: &str) -> bool {
+        let few = count < self.least();
+        println!("refused {number:>2}: {count:>9}{label}{}", if few { ": TOO FEW" } else { "" });
+        few
+    }
+
+    /// Prints the counts, and returns whether the run failed. 11 and 12 must come under each of some labels.
+    pub fn print(&self, labels: impl Iterator<Item = &'static str>) -> bool {
         self.tally.print();
         let random: u64 = self.random.iter().map(|(_, cases)| cases).sum();
         for (name, cases) in &self.random {
@@ -110,10 +118,10 @@ impl Results {
         }
         let mut failed = self.tally.mismatches() > 0;
         for number in REFUSALS {
-            let count = self.tally.refused(number);
-            let few = if count < self.least() { ": TOO FEW" } else { "" };
-            println!("refused {number:>2}: {count:>9}{few}");
-            failed |= count < self.least();
+            failed |= self.print_refused(number, self.tally.refused(number), "");
+        }
+        for (label, number) in pairs(labels, [11, 12]) {
+            failed |= self.print_refused(number, self.tally.refused_under(label, number), &format!("  {label}"));
         }
         println!(
             "compared in all: {} cases, of them {random} random; mismatches: {}",

@@ -48,9 +48,9 @@ impl<T: Copy> Lent<T> {
     }
 }
 
-/// Numbers to lend. No operation writes any of these values.
+/// Numbers to lend. No operation writes any of these values: they are greater than a place in any record.
 pub fn numbers(len: usize) -> Lent<u64> {
-    Lent::filled(len, |i| 70_000 + i as u64)
+    Lent::filled(len, |i| (1 << 48) + i as u64)
 }
 
 /// Bytes to lend.

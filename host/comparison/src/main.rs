@@ -79,10 +79,11 @@ const RANDOM_KINDS: [(&str, Job); 11] = [
 ];
 
 /// The jobs that are recorded, and how often each is run.
-const RECORDED: [(usize, Job); 14] = [
+const RECORDED: [(usize, Job); 15] = [
     (1, class::recorded),
     (300, aid::random_cases),
     (150, tlv::random_cases),
+    (1_000, tlv::broken),
     (1, tlv::every_length),
     (1, tlv::after_many),
     (400, tlv::random_writing),
@@ -132,7 +133,7 @@ fn options(words: &[&str]) -> Option<Options> {
 fn compare(options: &Options) -> bool {
     println!("seed {}, random cases asked for {}", options.seed, options.cases);
     let results = jobs::run(options, &SHORT_RUN, &RANDOM_KINDS);
-    let failed = results.print();
+    let failed = results.print(tlv::refused_labels());
     #[cfg(feature = "coverage")]
     let failed = branches::print(&results.branches, results.least()) || failed;
     failed

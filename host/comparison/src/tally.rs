@@ -16,12 +16,13 @@ static MISMATCHES: AtomicU64 = AtomicU64::new(0);
 pub type Labels = (&'static str, &'static [&'static str]);
 
 /// Words in the label of an operation that the Rust does not have, and a name for what it is compared with instead.
-const OTHER_REFERENCES: [(&str, &str); 5] = [
+const OTHER_REFERENCES: [(&str, &str); 6] = [
     ("checked against a table", "table"),
     ("checked against a rule", "rule"),
     ("checked against a model", "model"),
     ("checked against document 01", "document 01"),
     ("checked against document 02", "document 02"),
+    ("checked against the request's page", "page"),
 ];
 
 /// The cases of one label: how many they are, and how many of them must get each reply.
@@ -126,6 +127,11 @@ impl Tally {
     pub fn refused(&self, number: u8) -> u64 {
         let replies = self.counts.values().map(|count| &count.replies);
         replies.filter_map(|replies| replies.get(&number)).sum()
+    }
+
+    /// The same of the calls under one label.
+    pub fn refused_under(&self, label: &str, number: u8) -> u64 {
+        self.counts.get(label).and_then(|count| count.replies.get(&number)).copied().unwrap_or(0)
     }
 
     /// How many mismatches there are, in all threads together.

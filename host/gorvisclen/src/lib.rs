@@ -2,8 +2,9 @@
 //! `gorvisclen_`.
 //!
 //! Every function replies to every input: `Ok`, or `Err` with the number of a refusal. A refusal changes no lent
-//! memory, except for 18 (see `command_extend`). Lent memory before and after the numbers or bytes that are written
-//! does not change.
+//! memory, except for 18 (see `command_extend`), and for 11 and 12 of an object and of a lookup, which tell where they
+//! happened (see `take_data_object`, `get_data_object` and `value`). Lent memory before and after the numbers or bytes
+//! that are written does not change.
 //!
 //! | No. | Replied exactly when |
 //! |---|---|

@@ -9,10 +9,10 @@ pub const TAG_NUMBERS: usize = 2;
 pub const LEN_NUMBERS: usize = 2;
 
 /// How many numbers `take_data_object` writes.
-pub const OBJECT_NUMBERS: usize = 3;
+pub const OBJECT_NUMBERS: usize = 4;
 
-/// How many numbers `get_data_object` writes.
-pub const LOOKUP_NUMBERS: usize = 2;
+/// How many numbers `get_data_object` and `value` write.
+pub const LOOKUP_NUMBERS: usize = 3;
 
 exported! {
     /// The tag at the front of `bytes`, in 2 numbers: its bytes as one big-endian number; how many bytes it has.
@@ -23,18 +23,29 @@ exported! {
     /// Refusals: 12, also if there are no bytes; 16.
     fn take_len(reading: u8, bytes: bytes, out: numbers);
 
-    /// The object at the front of `bytes`, in 3 numbers: its tag as one number; the place of its value in `bytes`; the
-    /// length of the value. The next object starts at the sum of place and length.
-    /// Refusals: 11 if there are no bytes, 12, 16.
-    fn take_data_object(reading: u8, bytes: bytes, out: numbers);
+    /// The object at the place `at` of `record`, in 4 numbers: the place of the object; its tag as one number; the
+    /// place of its value; the length of the value. Places count from the start of `record`. The next object starts at
+    /// the sum of the value's place and length.
+    /// Refusals: 11 if no byte is left at that place, 12, 16. With 11 and 12 the 4 numbers are written too: the place
+    /// of the end or of the object that cannot be read, then three zeros. The place of the end is the length of
+    /// `record`, also if `at` is greater. If `out` is too short, nothing is written, and 11 and 12 are replied before
+    /// 16.
+    fn take_data_object(reading: u8, record: bytes, at: usize, out: numbers);
 
-    /// Looks up the value at a path of tags, in 2 numbers: its place in `record`; its length. Each tag is one number.
-    /// At each level the first object with the tag is entered. An empty path gives the whole record.
-    /// Refusals: 11 if a level does not have the tag, 12, 16.
+    /// Looks up the value at a path of tags, in 3 numbers: its place in `record`; its length; how many tags matched,
+    /// which is all of them. Each tag is one number. At each level the first object with the tag is entered. An empty
+    /// path gives the whole record: place 0, its length, no tag. A number that is no tag matches nothing.
+    /// Refusals: 11 if the end of a level is reached without the tag; 12 if an object of it cannot be read before that,
+    /// also one that runs past the value entered; 16. With 11 and 12 the 3 numbers are written too: the place
+    /// in `record` of the end of that level, or of the object that cannot be read; 0; how many tags matched before.
+    /// The end of the first level is the end of `record`; of a later one, that of the value entered last. If `out` is
+    /// too short, nothing is written, and 11 and 12 are replied before 16.
     fn get_data_object(reading: u8, record: bytes, path: tags, out: numbers);
 
-    /// Looks up the value at a path of tags, and copies it to the front of `to`. Writes one number: its length.
-    /// Refusals: as for `get_data_object`.
+    /// Looks up the value at a path of tags, copies it to the front of `to`, and writes the 3 numbers of
+    /// `get_data_object`.
+    /// Refusals: as for `get_data_object`, with the same numbers, whatever `to` is; also 16 if the value does not fit
+    /// into `to`, and then nothing is written. `to` changes only if the value is copied.
     fn value(reading: u8, record: bytes, path: tags, to: room, out: numbers);
 
     /// Writes an object into `buffer` from the place `at`: the bytes of its tag without leading zero bytes (the last

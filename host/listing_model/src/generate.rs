@@ -87,6 +87,16 @@ fn of_length(len: usize) -> Vec<u8> {
 const EXAMPLE: &[u8] =
     b"\x00\x02\x00\x04\x00\xA4\x04\x00\x00\x05\xFF\xB0\x00\x00\x00\x00\x01\x00\x06\x5F\x24\x03\x26\x10\x09";
 
+/// The record of request 2's vector, whose second object cannot be read.
+const BROKEN: &[u8] = &[0xC1, 0x01, 0xAA, 0xC2, 0x05];
+
+/// The example of document 01 and the vector of request 2, with their texts.
+pub fn documents() -> [(Vec<u8>, &'static str); 2] {
+    let example = "commands 2\n1 00 A4 04 00 lc 0 le 0 short\n2 refused 3\nrecords 1\n1.1 5F24 3\n";
+    let vector = "commands 0\nrecords 1\n1.1 C1 1\n1.2 refused 12 at 3\n";
+    [(EXAMPLE.to_vec(), example), (one_record(BROKEN), vector)]
+}
+
 /// An input with one command.
 fn one_command(apdu: &[u8]) -> Vec<u8> {
     input(&[apdu.to_vec()], &[])
@@ -118,10 +128,25 @@ fn malformed_and_longest() -> Vec<Vec<u8>> {
     ]
 }
 
-/// Records that are empty or end too early; and several records.
+/// An input with one command and `before` empty records, then a record of `objects` small objects and one that cannot
+/// be read. Its place in the record is not its place in the input.
+fn refused_after(before: usize, objects: usize) -> Vec<u8> {
+    let refused = [&vec![0x00; 2 * objects][..], &[0x5F]].concat();
+    input(&[vec![0x00, 0xB0, 0x00, 0x00]], &[vec![vec![]; before], vec![refused]].concat())
+}
+
+/// Records that are empty or end too early; several records; and refusals at places of one to five digits.
 fn records_at_edges() -> Vec<Vec<u8>> {
     let several = [vec![0x5F, 0x24, 0x00], vec![], vec![0x5F], vec![], vec![0xDF, 0x81, 0x01, 0x81, 0x00]];
     vec![
+        one_record(BROKEN),
+        refused_after(0, 4),
+        refused_after(1, 5),
+        refused_after(9, 49),
+        refused_after(99, 500),
+        refused_after(999, 4_999),
+        refused_after(9_999, 10_000),
+        refused_after(0, 29_000),
         one_record(&[]),
         one_record(&[0x00, 0x00]),
         one_record(&[0x5A, 0x00, 0x5F, 0x80, 0x00]),

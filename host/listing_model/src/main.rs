@@ -11,8 +11,11 @@ mod random;
 use std::path::Path;
 use std::{env, fs, io, process};
 
-/// Writes the named inputs and random ones, and returns how many they are.
+/// Writes the named inputs and random ones, and returns how many they are. The model must give the documents' texts.
 fn write(folder: &Path, cases: usize, seed: u64) -> io::Result<usize> {
+    for (input, text) in generate::documents() {
+        assert_eq!(model::text(&input), text);
+    }
     let mut random = random::Random::of_job(seed, 0);
     let mut all = generate::named_inputs();
     all.extend((0..cases).map(|_| generate::random_input(&mut random)));

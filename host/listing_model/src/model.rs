@@ -1,5 +1,5 @@
-//! A model of the text that apdulist prints, from document 01, "The listing". The original Rust reads commands and
-//! objects.
+//! A model of the text that apdulist prints, from document 01, "The listing", with the places of request 2 of document
+//! 02. The original Rust reads commands and objects.
 
 use original::command::CommandView;
 use original::tlv::{take_data_object, take_tag};
@@ -54,14 +54,14 @@ fn command(apdu: &[u8]) -> String {
     }
 }
 
-/// The lines of a record without its number.
+/// The lines of a record without its number. The place of a refusal is how many bytes of the record are before it.
 fn objects(record: &[u8]) -> Vec<String> {
     let mut lines = Vec::new();
     let mut left = record;
     while !left.is_empty() {
         let number = lines.len() + 1;
         let Some((_, value, after_object)) = take_data_object(left) else {
-            lines.push(format!("{number} refused 12"));
+            lines.push(format!("{number} refused 12 at {}", record.len() - left.len()));
             break;
         };
         let (_, after_tag) = take_tag(left).expect("an object starts with a tag");

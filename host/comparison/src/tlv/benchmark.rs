@@ -1,7 +1,8 @@
 //! Times BER records, in the crate's reading. A call takes a tag, a length or an object from the front of some bytes;
 //! writes an object to the front of a buffer; copies a value; or looks up a tag at the top level of a record and
-//! returns the place and length of the value. In the lines `as a slice` it returns the value itself, as the Rust does.
-//! For the library that adds taking this part of the record, which is done by the caller and has no limit.
+//! returns the place and length of the value. The library also returns how many tags matched, and where a lookup is
+//! refused. In the lines `as a slice` a call returns the value itself, as the Rust does. For the library that adds
+//! taking this part of the record, which is done by the caller and has no limit.
 
 use gorvisclen::{CRATE_READING, LOOKUP_NUMBERS};
 use original::command::DataStream;
@@ -9,7 +10,8 @@ use original::tlv::{get_data_object, take_data_object, take_len, take_tag, Tag};
 
 use super::lookup::{find, rust_tag, value, Lookup};
 use super::records::{length_forms, tag_bytes};
-use super::take::{self, place_of, Take};
+use super::rust_walk::place_of;
+use super::take::{self, Take};
 use super::writing::{self, put_data_object, rust_object, Object};
 use crate::benchmark::{check, checked, ours, Size, Table, NO_LIMIT};
 use crate::call::Call;
@@ -29,17 +31,17 @@ const LENGTHS: [(usize, &str); 4] = [(0, "no bytes"), (16, "16 bytes"), (255, "2
 /// Times taking from the front of some bytes. The Rust returns a tag as its own type, the library as a number.
 fn take<const N: usize, F: Take<N>, T>(
     table: &mut Table,
-    _: F,
+    take: F,
     samples: ([&str; 4], [&[u8]; 4]),
     by_rust: fn(&[u8]) -> Option<T>,
 ) {
     for (words, bytes) in samples.0.into_iter().zip(samples.1) {
-        let name = format!("{}, {words}", F::LABELS.read);
-        let size = checked(&name, &[F::call(CRATE_READING, bytes)], Size::default());
+        let name = format!("{}, {words}", take.labels(bytes.len(), true).0);
+        let size = checked(&name, &[take.call(bytes)], Size::default());
         table.returning(
             (&name, NO_LIMIT),
             size,
-            &[(bytes, F::call(CRATE_READING, bytes))],
+            &[(bytes, take.call(bytes))],
             |(bytes, _)| by_rust(bytes),
             |(_, call), to, out| ours(call, to, out),
         );
@@ -54,14 +56,17 @@ fn object(n: usize) -> Vec<u8> {
 fn takes(table: &mut Table) {
     let words = ["1 byte", "2 bytes", "3 bytes", "refused 12"];
     let tags: [&[u8]; 4] = [&[0x5A, 0x00], &[0x5F, 0x24, 0x00], &[0xDF, 0x81, 0x01, 0x00], &[0x5F, 0x80, 0x01]];
-    take(table, take::Tag, (words, tags), |bytes| take_tag(bytes).map(|(tag, rest)| (tag, bytes.len() - rest.len())));
+    take(table, take::Tag(CRATE_READING), (words, tags), |bytes| {
+        take_tag(bytes).map(|(tag, rest)| (tag, bytes.len() - rest.len()))
+    });
     let lengths: [&[u8]; 4] = [&[0x7F], &[0x81, 0x80], &[0x82, 0x01, 0x00], &[0x83, 0x01, 0x00, 0x00]];
-    take(table, take::Len, (words, lengths), |bytes| {
+    take(table, take::Len(CRATE_READING), (words, lengths), |bytes| {
         take_len(bytes).map(|(len, rest)| (len, bytes.len() - rest.len()))
     });
     let words = ["3 bytes", "200 bytes", "65,535 bytes", "refused 12"];
     let objects: [&[u8]; 4] = [&object(3), &object(200), &object(65_535), &object(200)[..100]];
-    take(table, take::Object, (words, objects), |bytes| {
+    let front = take::Object { reading: CRATE_READING, at: 0 };
+    take(table, front, (words, objects), |bytes| {
         take_data_object(bytes).map(|(tag, value, _)| (tag, place_of(value, bytes)))
     });
 }
@@ -92,7 +97,7 @@ fn value_of<'a>(sample: &Sample<'a>) -> Option<&'a [u8]> {
 fn place(sample: &Sample, _: &mut [u8], out: &mut [u64]) -> u8 {
     let Some(value) = value_of(sample) else { return 11 };
     let part = place_of(value, &sample.lookup.record);
-    out.copy_from_slice(&[part.start as u64, part.len() as u64]);
+    out[..2].copy_from_slice(&[part.start as u64, part.len() as u64]);
     0
 }
 
@@ -118,19 +123,38 @@ impl<'a> Sample<'a> {
     }
 }
 
+/// Checks and times lookups. All that the library writes is checked by their reference; of the Rust, which writes fewer
+/// numbers, the reply and the bytes.
+fn sides<'a>(
+    table: &mut Table,
+    (name, limit): (&str, f64),
+    size: Size,
+    (samples, calls): (&[Sample<'a>], &[impl Call<LOOKUP_NUMBERS>]),
+    by_rust: impl Fn(&Sample<'a>, &mut [u8], &mut [u64]) -> u8,
+) {
+    checked(name, calls, size);
+    for (sample, call) in samples.iter().zip(calls) {
+        let [mut rust_to, mut our_to] = [0; 2].map(|_| vec![7; size.to]);
+        let rust_reply = by_rust(sample, &mut rust_to, &mut vec![7; size.out]);
+        let our_reply = ours(call, &mut our_to, &mut vec![7; size.out]);
+        check(name, (rust_reply, rust_to), (our_reply, our_to));
+    }
+    table.time_sides((name, limit), size, (samples, calls), by_rust, ours);
+}
+
 fn written_and_copied(table: &mut Table) {
-    let size = |n| Size { to: n + 6, out: 1, bytes: 0 };
+    let size = |n, out| Size { to: n + 6, out, bytes: 0 };
     for (n, words) in LENGTHS {
         let value = vec![0xAA; n];
         let object = writing::object(0x5F24, &value);
         let name = format!("put_data_object, {words}");
-        table.sides((&name, NO_LIMIT), size(n), (&[object], &[put_data_object(object, 0)]), put_by_rust, ours);
+        table.sides((&name, NO_LIMIT), size(n, 1), (&[object], &[put_data_object(object, 0)]), put_by_rust, ours);
     }
     for (n, words) in LENGTHS.into_iter().skip(1) {
         let record = object(n);
         let sample = Sample::of(&record, &[0x5F24]);
-        let name = format!("value copied, {words}");
-        table.sides((&name, NO_LIMIT), size(n), (&[sample], &[value(sample.lookup)]), copy, ours);
+        let (name, size) = (format!("value copied, {words}"), size(n, LOOKUP_NUMBERS));
+        sides(table, (&name, NO_LIMIT), size, (&[sample], &[value(sample.lookup)]), copy);
     }
 }
 
@@ -167,11 +191,11 @@ fn lookups<'a>(table: &mut Table, name: &str, samples: &[Sample<'a>]) {
     };
     let size = Size { to: 0, out: LOOKUP_NUMBERS, bytes: samples.iter().map(walked).max().unwrap() };
     let finds: Vec<_> = samples.iter().map(|sample| find(sample.lookup)).collect();
-    table.sides((name, LIMIT), size, (samples, &finds), place, ours);
+    sides(table, (name, LIMIT), size, (samples, &finds), place);
     let name = format!("{name}, as a slice");
     for sample in samples {
         let part = |value: Option<&[u8]>| value.map(|value| (value.as_ptr(), value.len()));
-        check(&name, part(value_of(sample)), part(sample.slice(&mut [], &mut [7; 2])));
+        check(&name, part(value_of(sample)), part(sample.slice(&mut [], &mut [7; LOOKUP_NUMBERS])));
     }
     table.returning((&name, NO_LIMIT), size, samples, value_of, Sample::slice);
 }

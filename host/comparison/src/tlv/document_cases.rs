@@ -1,8 +1,9 @@
-//! Cases with their answers from document 01, and the incident.
+//! Cases with their answers from document 01, the incident, and cases of request 2 of document 02: where a lookup or an
+//! object is refused.
 
 use gorvisclen::{CRATE_READING, LEN_NUMBERS, OBJECT_NUMBERS, STANDARD_READING, TAG_NUMBERS};
 
-use super::lookup::Lookup;
+use super::lookup::{Found, Lookup};
 use super::records::length_forms;
 use super::take::{Len, Object, Tag, Take};
 use crate::call::Call;
@@ -14,14 +15,16 @@ use crate::tally::Tally;
 const P7_TO_P9: &str = "the cases P7, P8 and P9 (checked against document 01)";
 const RULES: &str = "the rules of BER records, case by case (checked against document 01)";
 const INCIDENT: &str = "the incident (checked against document 01)";
+const PLACES: &str = "where it broke, case by case (checked against document 02)";
+const VECTORS: &str = "the vectors of request 2 (checked against the request's page)";
 
 const READINGS: [u8; 2] = [CRATE_READING, STANDARD_READING];
 
 /// The answers of both readings, that of the crate first.
-type Both<T> = [Result<T, u8>; 2];
+type Both<T> = [T; 2];
 
 /// The label of some cases, their bytes in hex with commas between the cases, and what is taken from each.
-type TakeRow<const N: usize> = (&'static str, &'static str, Both<[u64; N]>);
+type TakeRow<const N: usize> = (&'static str, &'static str, Both<Result<[u64; N], u8>>);
 
 /// Tags, with each refusal and with each row in which the readings differ.
 const TAGS: [TakeRow<TAG_NUMBERS>; 15] = [
@@ -56,19 +59,43 @@ const LENGTHS: [TakeRow<LEN_NUMBERS>; 7] = [
     (RULES, ", 80 00, 81, 82 05, FF 00 00", [Err(12); 2]),
 ];
 
+/// An object in a table: its place, its tag, the value's place, the value's length. Or a refusal and its place.
+type Taken = Result<[u64; OBJECT_NUMBERS], (u8, u64)>;
+
+/// The label of some cases, records in hex with commas between the cases, a place in each, and what is there.
+type ObjectRow = (&'static str, &'static str, usize, Both<Taken>);
+
 /// Objects, and bytes that are no object.
-const OBJECTS: [TakeRow<OBJECT_NUMBERS>; 7] = [
-    (P7_TO_P9, "5F 1E 01 AA", [Ok([0x5F1E, 3, 1]), Err(12)]),
-    (P7_TO_P9, "5F 80, 5F 80 01, 5F 80 01 AA, C1 83 00 00 01 AA", [Err(12); 2]),
-    (RULES, "", [Err(11); 2]),
-    (RULES, "5F 24 03 26 10 09", [Ok([0x5F24, 3, 3]); 2]),
-    (RULES, "00 00 00", [Ok([0x00, 2, 0]); 2]),
-    (RULES, "5A 82 00 01 AA BB", [Ok([0x5A, 4, 1]); 2]),
-    (RULES, "5F 24 03 26 10, 5F 24", [Err(12); 2]),
+const OBJECTS: [ObjectRow; 21] = [
+    (P7_TO_P9, "5F 1E 01 AA", 0, [Ok([0, 0x5F1E, 3, 1]), Err((12, 0))]),
+    (P7_TO_P9, "5F 80, 5F 80 01, 5F 80 01 AA, C1 83 00 00 01 AA", 0, [Err((12, 0)); 2]),
+    (RULES, "", 0, [Err((11, 0)); 2]),
+    (RULES, "5F 24 03 26 10 09", 0, [Ok([0, 0x5F24, 3, 3]); 2]),
+    (RULES, "00 00 00", 0, [Ok([0, 0x00, 2, 0]); 2]),
+    (RULES, "5A 82 00 01 AA BB", 0, [Ok([0, 0x5A, 4, 1]); 2]),
+    (RULES, "5F 24 03 26 10, 5F 24", 0, [Err((12, 0)); 2]),
+    // Places count from the start of the record.
+    (PLACES, "C1 01 AA 5F 24 03 26 10 09", 0, [Ok([0, 0xC1, 2, 1]); 2]),
+    (PLACES, "C1 01 AA 5F 24 03 26 10 09", 3, [Ok([3, 0x5F24, 6, 3]); 2]),
+    (PLACES, "C1 01 AA 5F 1E 01 AA", 3, [Ok([3, 0x5F1E, 6, 1]), Err((12, 3))]),
+    (PLACES, "C1 01 AA C2 81 00", 3, [Ok([3, 0xC2, 6, 0]); 2]),
+    // Any place will do, also one inside an object.
+    (PLACES, "C1 02 C2 00", 1, [Err((12, 1)); 2]),
+    (PLACES, "C1 02 C2 00", 2, [Ok([2, 0xC2, 4, 0]); 2]),
+    // 12 is at the object's first byte, not at the byte that cannot be read.
+    (PLACES, "C1 01 AA 5F, C1 01 AA 5F 80, C1 01 AA DF 81 81 00", 3, [Err((12, 3)); 2]),
+    (PLACES, "C1 01 AA C2, C1 01 AA C2 81, C1 01 AA C2 83 00 00 00, C1 01 AA C2 02 BB", 3, [Err((12, 3)); 2]),
+    // 11 is at the end, also if the place is past it.
+    (PLACES, "C1 01 AA", 3, [Err((11, 3)); 2]),
+    (PLACES, "C1 01 AA", 4, [Err((11, 3)); 2]),
+    (PLACES, "C1 01 AA, C1 05 AA, 5F 80 01", usize::MAX, [Err((11, 3)); 2]),
+    (PLACES, "", 1, [Err((11, 0)); 2]),
+    (PLACES, "", usize::MAX, [Err((11, 0)); 2]),
+    (VECTORS, "C1 01 AA C2 05 01", 3, [Err((12, 3)); 2]),
 ];
 
-/// The label of a case, a record in hex, a path, and what is found there: the place of the value and its bytes.
-type LookupRow = (&'static str, &'static str, &'static [u32], Both<(usize, &'static [u8])>);
+/// The label of a case, a record in hex, a path, and what is found there.
+type LookupRow = (&'static str, &'static str, &'static [u32], Both<Found<'static>>);
 
 /// The tag of the due date, the tag of a template, and a due date.
 const DUE: u32 = 0x5F24;
@@ -77,48 +104,96 @@ const DATE: &[u8] = &[0x27, 0x01, 0x31];
 
 /// P7 to P9; the sentences about the lookup, each with a record of its own; the incident.
 const LOOKUPS: [LookupRow; 31] = [
-    (P7_TO_P9, "5F 1E 01 AA", &[0x5F1E], [Ok((3, &[0xAA])), Err(12)]),
-    (P7_TO_P9, "5F 1E 01 AA", &[0x5F1F], [Err(11), Err(12)]),
-    (P7_TO_P9, "5F 80", &[0x5F80], [Err(12); 2]),
-    (P7_TO_P9, "5F 80 01", &[0x5F80], [Err(12); 2]),
-    (P7_TO_P9, "5F 80 01 AA", &[0x5F80], [Err(12); 2]),
-    (P7_TO_P9, "C1 83 00 00 01 AA", &[0xC1], [Err(12); 2]),
+    (P7_TO_P9, "5F 1E 01 AA", &[0x5F1E], [Ok((3, &[0xAA], 1)), Err((12, 0, 0))]),
+    (P7_TO_P9, "5F 1E 01 AA", &[0x5F1F], [Err((11, 4, 0)), Err((12, 0, 0))]),
+    (P7_TO_P9, "5F 80", &[0x5F80], [Err((12, 0, 0)); 2]),
+    (P7_TO_P9, "5F 80 01", &[0x5F80], [Err((12, 0, 0)); 2]),
+    (P7_TO_P9, "5F 80 01 AA", &[0x5F80], [Err((12, 0, 0)); 2]),
+    (P7_TO_P9, "C1 83 00 00 01 AA", &[0xC1], [Err((12, 0, 0)); 2]),
     // An empty path gives the whole record, even if it cannot be read or is empty.
-    (RULES, "5F 80", &[], [Ok((0, &[0x5F, 0x80])); 2]),
-    (RULES, "", &[], [Ok((0, &[])); 2]),
-    (RULES, "", &[0x5A], [Err(11); 2]),
+    (RULES, "5F 80", &[], [Ok((0, &[0x5F, 0x80], 0)); 2]),
+    (RULES, "", &[], [Ok((0, &[], 0)); 2]),
+    (RULES, "", &[0x5A], [Err((11, 0, 0)); 2]),
     // The first object with the tag counts.
-    (RULES, "5A 01 AA 5A 01 BB", &[0x5A], [Ok((2, &[0xAA])); 2]),
+    (RULES, "5A 01 AA 5A 01 BB", &[0x5A], [Ok((2, &[0xAA], 1)); 2]),
     // It is entered, and there is no way back to a second one.
-    (RULES, "70 00 70 03 5A 01 AA", &[0x70, 0x5A], [Err(11); 2]),
+    (RULES, "70 00 70 03 5A 01 AA", &[0x70, 0x5A], [Err((11, 2, 1)); 2]),
     // The lookup ends at the end of an entered value.
-    (RULES, "70 02 C1 00 5A 01 AA", &[0x70, 0x5A], [Err(11); 2]),
+    (RULES, "70 02 C1 00 5A 01 AA", &[0x70, 0x5A], [Err((11, 4, 1)); 2]),
     // A primitive value is entered too.
-    (RULES, "C1 03 5A 01 AA", &[0xC1, 0x5A], [Ok((4, &[0xAA])); 2]),
-    (RULES, "C1 02 5A 01 AA", &[0xC1, 0x5A], [Err(12); 2]),
+    (RULES, "C1 03 5A 01 AA", &[0xC1, 0x5A], [Ok((4, &[0xAA], 2)); 2]),
+    (RULES, "C1 02 5A 01 AA", &[0xC1, 0x5A], [Err((12, 2, 1)); 2]),
     // Damage after a match is not seen; damage before it is.
-    (RULES, "5A 01 AA 5F 80", &[0x5A], [Ok((2, &[0xAA])); 2]),
-    (RULES, "5A 01 AA 5F 80", &[0xC1], [Err(12); 2]),
-    (RULES, "5F 80 5A 01 AA", &[0x5A], [Err(12); 2]),
+    (RULES, "5A 01 AA 5F 80", &[0x5A], [Ok((2, &[0xAA], 1)); 2]),
+    (RULES, "5A 01 AA 5F 80", &[0xC1], [Err((12, 3, 0)); 2]),
+    (RULES, "5F 80 5A 01 AA", &[0x5A], [Err((12, 0, 0)); 2]),
     // A zero byte is a tag.
-    (RULES, "00 00 5A 01 AA", &[0x5A], [Ok((4, &[0xAA])); 2]),
-    (RULES, "00 5A 01 AA", &[0x5A], [Err(12); 2]),
-    (RULES, "5A 01 AA 00 01 BB", &[0x00], [Ok((5, &[0xBB])); 2]),
+    (RULES, "00 00 5A 01 AA", &[0x5A], [Ok((4, &[0xAA], 1)); 2]),
+    (RULES, "00 5A 01 AA", &[0x5A], [Err((12, 0, 0)); 2]),
+    (RULES, "5A 01 AA 00 01 BB", &[0x00], [Ok((5, &[0xBB], 1)); 2]),
     // An empty value at the end of the record.
-    (RULES, "C1 00 5A 81 00", &[0x5A], [Ok((5, &[])); 2]),
+    (RULES, "C1 00 5A 81 00", &[0x5A], [Ok((5, &[], 1)); 2]),
     // A number that is no tag matches nothing.
-    (RULES, "5F 24 01 AA", &[0x5F], [Err(11); 2]),
-    (RULES, "5F 24 01 AA", &[0x0100_5F24], [Err(11); 2]),
-    (RULES, "5F 24 01 AA", &[0x5F24_01AA], [Err(11); 2]),
+    (RULES, "5F 24 01 AA", &[0x5F], [Err((11, 4, 0)); 2]),
+    (RULES, "5F 24 01 AA", &[0x0100_5F24], [Err((11, 4, 0)); 2]),
+    (RULES, "5F 24 01 AA", &[0x5F24_01AA], [Err((11, 4, 0)); 2]),
     // A serial number that contains the bytes of a due date. The lookup finds the true due date after it, and is
     // refused with 11 if there is none. The same in a template.
-    (INCIDENT, "C1 06 5F 24 03 26 10 09 5F 24 03 27 01 31", &[DUE], [Ok((11, DATE)); 2]),
-    (INCIDENT, "C1 06 5F 24 03 26 10 09", &[DUE], [Err(11); 2]),
-    (INCIDENT, "70 0E C1 06 5F 24 03 26 10 09 5F 24 03 27 01 31", &[TEMPLATE, DUE], [Ok((13, DATE)); 2]),
-    (INCIDENT, "70 0E C1 06 5F 24 03 26 10 09 5F 24 03 27 01 31", &[DUE], [Err(11); 2]),
-    (INCIDENT, "70 08 C1 06 5F 24 03 26 10 09", &[TEMPLATE, DUE], [Err(11); 2]),
-    (INCIDENT, "70 08 C1 06 5F 24 03 26 10 09 5F 24 03 27 01 31", &[TEMPLATE, DUE], [Err(11); 2]),
-    (INCIDENT, "70 08 C1 06 5F 24 03 26 10 09 5F 24 03 27 01 31", &[DUE], [Ok((13, DATE)); 2]),
+    (INCIDENT, "C1 06 5F 24 03 26 10 09 5F 24 03 27 01 31", &[DUE], [Ok((11, DATE, 1)); 2]),
+    (INCIDENT, "C1 06 5F 24 03 26 10 09", &[DUE], [Err((11, 8, 0)); 2]),
+    (INCIDENT, "70 0E C1 06 5F 24 03 26 10 09 5F 24 03 27 01 31", &[TEMPLATE, DUE], [Ok((13, DATE, 2)); 2]),
+    (INCIDENT, "70 0E C1 06 5F 24 03 26 10 09 5F 24 03 27 01 31", &[DUE], [Err((11, 16, 0)); 2]),
+    (INCIDENT, "70 08 C1 06 5F 24 03 26 10 09", &[TEMPLATE, DUE], [Err((11, 10, 1)); 2]),
+    (INCIDENT, "70 08 C1 06 5F 24 03 26 10 09 5F 24 03 27 01 31", &[TEMPLATE, DUE], [Err((11, 10, 1)); 2]),
+    (INCIDENT, "70 08 C1 06 5F 24 03 26 10 09 5F 24 03 27 01 31", &[DUE], [Ok((13, DATE, 1)); 2]),
+];
+
+/// Two templates, one in the other, and an object after each.
+const TWO_TEMPLATES: &str = "E1 08 E2 04 C1 02 AA BB C3 00 C4 00";
+
+/// The sentences of request 2, each with records of its own; and the vectors of its page, which are in the crate's
+/// reading. The standard reading has no other answer for them.
+const REQUEST_2: [LookupRow; 33] = [
+    // A value: its place in the whole record, and all tags of the path.
+    (PLACES, TWO_TEMPLATES, &[0xE1, 0xE2, 0xC1], [Ok((6, &[0xAA, 0xBB], 3)); 2]),
+    (PLACES, TWO_TEMPLATES, &[0xE1, 0xC3], [Ok((10, &[], 2)); 2]),
+    (PLACES, TWO_TEMPLATES, &[0xC4], [Ok((12, &[], 1)); 2]),
+    // 11: the end of the record, or of the value that was entered last.
+    (PLACES, TWO_TEMPLATES, &[0xC3], [Err((11, 12, 0)); 2]),
+    (PLACES, TWO_TEMPLATES, &[0xE1, 0xC4], [Err((11, 10, 1)); 2]),
+    (PLACES, TWO_TEMPLATES, &[0xE1, 0xE2, 0xC3], [Err((11, 8, 2)); 2]),
+    (PLACES, TWO_TEMPLATES, &[0xE1, 0xC3, 0xC1], [Err((11, 10, 2)); 2]),
+    // 12: the object's first byte in the whole record, not the byte that cannot be read.
+    (PLACES, "C1 01 AA DF 81 81 00", &[0xC2], [Err((12, 3, 0)); 2]),
+    (PLACES, "C1 01 AA C2 83 00 00 00", &[0xC2], [Err((12, 3, 0)); 2]),
+    (PLACES, "E1 05 C1 01 AA 5F 80", &[0xE1, 0xC2], [Err((12, 5, 1)); 2]),
+    (PLACES, "E1 05 C1 01 AA C2 05", &[0xE1, 0xC2], [Err((12, 5, 1)); 2]),
+    (PLACES, "C5 00 E1 04 E2 02 C1 81", &[0xE1, 0xE2, 0xC1], [Err((12, 6, 2)); 2]),
+    (PLACES, "E1 05 5F 1E 01 AA C1", &[0xE1, 0xC1], [Err((12, 6, 1)), Err((12, 2, 1))]),
+    // An object that runs past the value that was entered is 12, also if the record goes on.
+    (PLACES, "E1 02 C1 01 AA C2 00", &[0xE1, 0xC1], [Err((12, 2, 1)); 2]),
+    (PLACES, "E1 04 C1 00 C2 01 AA C3 00", &[0xE1, 0xC3], [Err((12, 4, 1)); 2]),
+    // Tags count if their object was entered, not if it was passed over.
+    (PLACES, "C1 00 C2 00 C3 00", &[0xC4, 0xC1], [Err((11, 6, 0)); 2]),
+    (PLACES, "C1 00 E1 02 C2 00 C3 00", &[0xE1, 0xC3, 0xC4], [Err((11, 6, 1)); 2]),
+    (PLACES, "C1 00 C2 00", &[0xC2, 0xC3], [Err((11, 4, 1)); 2]),
+    (PLACES, "E1 02 E1 00", &[0xE1, 0xE1, 0xE1], [Err((11, 4, 2)); 2]),
+    // A number that is no tag matches nothing, at each level.
+    (PLACES, TWO_TEMPLATES, &[0x5F, 0xE2, 0xC1], [Err((11, 12, 0)); 2]),
+    (PLACES, TWO_TEMPLATES, &[0xE1, 0x0100_00E2, 0xC1], [Err((11, 10, 1)); 2]),
+    (PLACES, TWO_TEMPLATES, &[0xE1, 0xE2, 0x5F80], [Err((11, 8, 2)); 2]),
+    (PLACES, TWO_TEMPLATES, &[0xE1, 0xE2, 0xC1, 0xC100], [Err((12, 6, 3)); 2]),
+    // An empty path, for records that cannot be read.
+    (PLACES, "C1 05", &[], [Ok((0, &[0xC1, 0x05], 0)); 2]),
+    (PLACES, "5F", &[], [Ok((0, &[0x5F], 0)); 2]),
+    (VECTORS, "C1 01 AA", &[], [Ok((0, &[0xC1, 0x01, 0xAA], 0)); 2]),
+    (VECTORS, "C1 01 AA", &[0xC1], [Ok((2, &[0xAA], 1)); 2]),
+    (VECTORS, "C1 01 AA", &[0xC2], [Err((11, 3, 0)); 2]),
+    (VECTORS, "E1 03 C1 01 AA", &[0xE1, 0xC1], [Ok((4, &[0xAA], 2)); 2]),
+    (VECTORS, "E1 03 C1 01 AA C2 00", &[0xE1, 0xC2], [Err((11, 5, 1)); 2]),
+    (VECTORS, "C1 01 AA C2 05 01", &[0xC2], [Err((12, 3, 0)); 2]),
+    (VECTORS, "", &[0xC1], [Err((11, 0, 0)); 2]),
+    (VECTORS, "", &[], [Ok((0, &[], 0)); 2]),
 ];
 
 /// Bytes from pairs of hex digits with blanks between them.
@@ -127,18 +202,28 @@ fn unhex(digits: &str) -> Vec<u8> {
     bytes.map(|byte| u8::from_str_radix(byte, 16).unwrap()).collect()
 }
 
-/// Compares what is taken from the front of some bytes with a table.
-fn takes<const N: usize, F: Take<N>>(tally: &mut Tally, _: F, rows: &[TakeRow<N>]) {
+/// Compares what is taken from the front of some bytes with a table. `take` makes it for a reading.
+fn takes<const N: usize, F: Take<N>>(tally: &mut Tally, take: fn(u8) -> F, rows: &[TakeRow<N>]) {
     for (label, strings, answers) in rows {
         for (string, (reading, answer)) in pairs(strings.split(','), READINGS.into_iter().zip(*answers)) {
             let answer = answer.map(|numbers| numbers.into());
-            F::call(reading, &unhex(string)).compare_with_table(tally, label, &answer, 0);
+            take(reading).call(&unhex(string)).compare_with_table(tally, label, &answer, 0);
+        }
+    }
+}
+
+/// Compares objects at places of records with a table.
+fn objects(tally: &mut Tally) {
+    for (label, records, at, answers) in OBJECTS {
+        for (record, (reading, answer)) in pairs(records.split(','), READINGS.into_iter().zip(answers)) {
+            let answer = answer.map_err(|(number, place)| (number, [place, 0, 0, 0]));
+            Object { reading, at }.call(&unhex(record)).compare_with_table(tally, label, &Ok(answer.into()), 0);
         }
     }
 }
 
 /// Compares a lookup with the answers of both readings.
-fn lookup(tally: &mut Tally, label: &'static str, record: &[u8], path: &[u32], answers: Both<(usize, &[u8])>) {
+fn lookup(tally: &mut Tally, label: &'static str, record: &[u8], path: &[u32], answers: Both<Found>) {
     // A copy of the path, which can be written to: a call that writes to it is reported.
     let path = &path.to_vec();
     for (reading, answer) in READINGS.into_iter().zip(answers) {
@@ -166,19 +251,21 @@ fn random_serial_number(tally: &mut Tally, random: &mut Random) {
     let date = &random.bytes(3)[..];
     let with = [&serial[..], &object(random, "5F 24", date)].concat();
     let [template, without] = [&with, &serial].map(|value| object(random, "70", value));
-    lookup(tally, INCIDENT, &with, &[DUE], [Ok((with.len() - 3, date)); 2]);
-    lookup(tally, INCIDENT, &serial, &[DUE], [Err(11); 2]);
-    lookup(tally, INCIDENT, &template, &[TEMPLATE, DUE], [Ok((template.len() - 3, date)); 2]);
-    lookup(tally, INCIDENT, &template, &[DUE], [Err(11); 2]);
-    lookup(tally, INCIDENT, &without, &[TEMPLATE, DUE], [Err(11); 2]);
+    let [with_len, serial_len, template_len, without_len] =
+        [&with, &serial, &template, &without].map(|record| record.len() as u64);
+    lookup(tally, INCIDENT, &with, &[DUE], [Ok((with_len - 3, date, 1)); 2]);
+    lookup(tally, INCIDENT, &serial, &[DUE], [Err((11, serial_len, 0)); 2]);
+    lookup(tally, INCIDENT, &template, &[TEMPLATE, DUE], [Ok((template_len - 3, date, 2)); 2]);
+    lookup(tally, INCIDENT, &template, &[DUE], [Err((11, template_len, 0)); 2]);
+    lookup(tally, INCIDENT, &without, &[TEMPLATE, DUE], [Err((11, without_len, 1)); 2]);
 }
 
 /// The short run.
 pub fn compare(tally: &mut Tally, random: &mut Random) {
     takes(tally, Tag, &TAGS);
     takes(tally, Len, &LENGTHS);
-    takes(tally, Object, &OBJECTS);
-    for (label, record, path, answers) in LOOKUPS {
+    objects(tally);
+    for (label, record, path, answers) in LOOKUPS.into_iter().chain(REQUEST_2) {
         lookup(tally, label, &unhex(record), path, answers);
     }
     for _ in 0..5_000 {

@@ -4,36 +4,30 @@ use gorvisclen::CRATE_READING;
 
 use crate::tally::Labels;
 
-/// The labels of an operation: if the Rust reads something, if it returns `None`, in the standard reading, and for a
-/// lookup whose path has a number that no tag of the Rust can hold.
-pub struct OperationLabels {
-    pub read: &'static str,
+/// The labels of a tag or a length: if the Rust reads it, if it returns `None`, and in the standard reading.
+pub struct TakeLabels {
+    read: &'static str,
     not_read: &'static str,
     standard: &'static str,
-    pub too_large_number: &'static str,
     /// The label of each number of the Rust's answer.
     number_labels: &'static [&'static str],
 }
 
-macro_rules! labels {
+macro_rules! take_labels {
     ($operation:literal $(, $number:literal)*) => {
-        OperationLabels {
+        TakeLabels {
             read: $operation,
             not_read: concat!($operation, ", None (11 or 12: checked against a model of document 01)"),
             standard: concat!($operation, ", standard reading (checked against a model of EMV Book 3 Annex B)"),
-            too_large_number: concat!($operation, ", a number above FFFFFF (checked against a model of document 01)"),
             number_labels: &[$(concat!($operation, ", ", $number)),*],
         }
     };
 }
 
-pub const TAG: OperationLabels = labels!("take_tag", "the tag", "how many bytes it takes");
-pub const LEN: OperationLabels = labels!("take_len", "the length", "how many bytes it takes");
-pub const OBJECT: OperationLabels = labels!("take_data_object", "the tag", "the value's place", "the value's length");
-pub const LOOKUP: OperationLabels = labels!("get_data_object", "the value's place", "the value's length");
-pub const VALUE: OperationLabels = labels!("get_data_object, the value's bytes");
+pub const TAG: TakeLabels = take_labels!("take_tag", "the tag", "how many bytes it takes");
+pub const LEN: TakeLabels = take_labels!("take_len", "the length", "how many bytes it takes");
 
-impl OperationLabels {
+impl TakeLabels {
     /// The labels for an answer that is accepted or refused.
     pub fn labels(&self, reading: u8, accepted: bool) -> Labels {
         match (reading, accepted) {
@@ -42,4 +36,80 @@ impl OperationLabels {
             _ => (self.standard, &[]),
         }
     }
+}
+
+/// The labels of an object or a lookup. Those of refusals are in pairs: at the start of the record, or at the top
+/// level; and further on, or in an entered value.
+pub struct WalkLabels {
+    pub read: &'static str,
+    not_read: [&'static str; 2],
+    standard: &'static str,
+    standard_not_read: [&'static str; 2],
+    /// If the Rust has no such call: an object past the end, a lookup of a number that no tag of the Rust can hold.
+    pub no_rust: &'static str,
+    /// The label of each number of the Rust's answer.
+    number_labels: &'static [&'static str],
+}
+
+macro_rules! walk_labels {
+    ($operation:literal, [$($where:literal),*], $no_rust:literal $(, $number:literal)*) => {
+        WalkLabels {
+            read: $operation,
+            not_read: [$(concat!(
+                $operation,
+                ", None ",
+                $where,
+                " (11 or 12 and its place: where the Rust's steps end)"
+            )),*],
+            standard: concat!($operation, ", standard reading (checked against a model of EMV Book 3 Annex B)"),
+            standard_not_read: [$(concat!(
+                $operation,
+                ", standard reading, 11 or 12 ",
+                $where,
+                " (checked against a model of EMV Book 3 Annex B)"
+            )),*],
+            no_rust: concat!($operation, $no_rust),
+            number_labels: &[$(concat!($operation, ", ", $number)),*],
+        }
+    };
+}
+
+pub const OBJECT: WalkLabels = walk_labels!(
+    "take_data_object",
+    ["at the record's start", "at a later place"],
+    ", a place past the end (no Rust: checked against a rule, 11 at the end)",
+    "the object's place",
+    "the tag",
+    "the value's place",
+    "the value's length"
+);
+pub const LOOKUP: WalkLabels = walk_labels!(
+    "get_data_object",
+    ["at the top level", "in an entered value"],
+    ", a number above FFFFFF (checked against a model of document 01)",
+    "the value's place",
+    "the value's length",
+    "how many tags matched"
+);
+pub const VALUE: WalkLabels = walk_labels!(
+    "get_data_object, the value's bytes",
+    ["at the top level", "in an entered value"],
+    ", a number above FFFFFF (checked against a model of document 01)"
+);
+
+impl WalkLabels {
+    /// The labels for an answer. `further` says of a refusal that it is of the second kind.
+    pub fn labels(&self, reading: u8, accepted: bool, further: bool) -> Labels {
+        match (reading, accepted) {
+            (CRATE_READING, true) => (self.read, self.number_labels),
+            (CRATE_READING, false) => (self.not_read[usize::from(further)], &[]),
+            (_, true) => (self.standard, &[]),
+            (_, false) => (self.standard_not_read[usize::from(further)], &[]),
+        }
+    }
+}
+
+/// The labels under which both 11 and 12 must come.
+pub fn refused() -> impl Iterator<Item = &'static str> {
+    [OBJECT, LOOKUP, VALUE].into_iter().flat_map(|labels| [labels.not_read, labels.standard_not_read]).flatten()
 }

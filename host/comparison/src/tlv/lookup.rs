@@ -1,13 +1,12 @@
 //! The calls that look up a path: the place of the value, and its bytes.
 
-use std::ops::Range;
-
 use gorvisclen::{CRATE_READING, LOOKUP_NUMBERS};
-use original::tlv::{get_data_object, Tag};
+use original::tlv::Tag;
 
-use super::labels::{OperationLabels, LOOKUP, VALUE};
-use super::model;
-use super::take::{check_model, place_of};
+use super::labels::{WalkLabels, LOOKUP, VALUE};
+use super::take::check_model;
+use super::{model, rust_walk};
+use crate::answer::{is_accepted, Answer, Told, Writes};
 use crate::call::{call, Call, Input};
 use crate::hex::Hex;
 use crate::recording::{Arguments, Operation};
@@ -20,6 +19,10 @@ pub struct Lookup<'a> {
     pub record: Hex<'a, u8>,
     path: Hex<'a, u32>,
 }
+
+/// What a lookup finds, in a table: the value's place, its bytes, and how many tags matched. Or a refusal, its place,
+/// and how many tags matched.
+pub type Found<'a> = Result<(u64, &'a [u8], u64), (u8, u64, u64)>;
 
 /// The Rust's tag with a number; none if the number is too large. All ways to make it must agree.
 pub fn rust_tag(number: &u32) -> Option<Tag> {
@@ -55,21 +58,29 @@ impl<'a> Lookup<'a> {
         Lookup { reading, record, path }
     }
 
-    /// Where the value must be found, by the model. In the crate's reading it must agree with the Rust.
-    pub fn found(&self) -> Result<Range<usize>, u8> {
-        let found = model::lookup(self.reading, &self.record, &self.path);
+    /// The numbers that must be told. In the crate's reading they are the Rust's, with which the model must agree. In
+    /// the standard reading, and if a number of the path is too large for the Rust, they are the model's.
+    pub fn told(&self) -> Told<LOOKUP_NUMBERS> {
+        let model = model::lookup(self.reading, &self.record, &self.path);
         let tags: Option<Vec<Tag>> = self.path.iter().map(rust_tag).collect();
-        if let (CRATE_READING, Some(tags)) = (self.reading, tags) {
-            let rust = get_data_object(&tags, &self.record);
-            let rust = rust.map(|part| place_of(part, &self.record));
-            check_model(rust, found.clone().ok(), || self);
+        match (self.reading, tags) {
+            (CRATE_READING, Some(tags)) => {
+                let rust = rust_walk::lookup(&tags, &self.record);
+                check_model(&rust, &model, || self);
+                rust
+            }
+            _ => model,
         }
-        found
+    }
+
+    /// The value; no bytes if none is found.
+    fn value(&self, told: Told<LOOKUP_NUMBERS>) -> &'a [u8] {
+        told.map_or(&[], |[place, len, _]| &self.record.0[place as usize..][..len as usize])
     }
 
     /// The length of the value; 0 if none is found.
     pub fn len(&self) -> usize {
-        self.found().map_or(0, |part| part.len())
+        self.value(self.told()).len()
     }
 
     /// Whether the path has a number that no tag of the Rust can hold.
@@ -83,45 +94,49 @@ impl<'a> Lookup<'a> {
     }
 
     /// The labels that it is counted under.
-    fn labels(&self, labels: &OperationLabels, accepted: bool) -> Labels {
+    fn labels(&self, labels: &WalkLabels, answer: &Answer<LOOKUP_NUMBERS>) -> Labels {
+        let tag_matched = answer.as_ref().is_ok_and(|writes| writes.numbers[2] > 0);
         match self.reading {
-            CRATE_READING if self.has_too_large_number() => (labels.too_large_number, &[]),
-            reading => labels.labels(reading, accepted),
+            CRATE_READING if self.has_too_large_number() => (labels.no_rust, &[]),
+            reading => labels.labels(reading, is_accepted(answer), tag_matched),
         }
     }
 
-    /// Compares both calls with a place and bytes, or a refusal, from a table, under a label of its own.
-    pub fn compare_with_table(self, tally: &mut Tally, label: &'static str, answer: Result<(usize, &[u8]), u8>) {
-        let part = answer.map(|(place, value)| [place as u64, value.len() as u64].into());
-        find(self).compare_with_table(tally, label, &part, 0);
-        let bytes = answer.map(|(_, bytes)| Some(bytes.into()).into());
-        let to_len = answer.map_or(2, |(_, value)| value.len() + 2);
-        value(self).compare_with_table(tally, label, &bytes, to_len);
+    /// Compares both calls with what is found by a table, under a label of its own.
+    pub fn compare_with_table(self, tally: &mut Tally, label: &'static str, found: Found) {
+        let (told, bytes) = match found {
+            Ok((place, bytes, matched)) => (Ok([place, bytes.len() as u64, matched]), bytes),
+            Err((number, place, matched)) => (Err((number, [place, 0, matched])), &[][..]),
+        };
+        find(self).compare_with_table(tally, label, &Ok(told.into()), 0);
+        let copied = Writes { bytes: bytes.into(), ..told.into() };
+        value(self).compare_with_table(tally, label, &Ok(copied), bytes.len() + 2);
     }
 }
 
-/// The place of a value and its length.
+/// The place of a value and its length, or where the lookup is refused; and how many tags matched.
 pub fn find(lookup: Lookup<'_>) -> impl Call<LOOKUP_NUMBERS> + '_ {
     call(
         (LOOKUP.read, &[]),
         lookup,
         |lookup, _, out| gorvisclen::get_data_object(lookup.reading, &lookup.record, &lookup.path, out),
-        |lookup, _| {
-            let part = lookup.found()?;
-            Ok([part.start as u64, part.len() as u64].into())
-        },
+        |lookup, _| Ok(lookup.told().into()),
     )
-    .labelled_by(|lookup, _, answer| Some(lookup.labels(&LOOKUP, answer.is_ok())))
+    .labelled_by(|lookup, _, answer| Some(lookup.labels(&LOOKUP, answer)))
     .recorded_as(lookup.if_recorded(Operation::GetDataObject))
 }
 
-/// The bytes of a value.
-pub fn value(lookup: Lookup<'_>) -> impl Call<1> + '_ {
+/// The same, and the bytes of the value.
+pub fn value(lookup: Lookup<'_>) -> impl Call<LOOKUP_NUMBERS> + '_ {
     call(
-        lookup.labels(&VALUE, true),
+        (VALUE.read, &[]),
         lookup,
         |lookup, to, out| gorvisclen::value(lookup.reading, &lookup.record, &lookup.path, to, out),
-        |lookup, _| Ok(Some(lookup.record[lookup.found()?].into()).into()),
+        |lookup, _| {
+            let told = lookup.told();
+            Ok(Writes { bytes: lookup.value(told).into(), ..told.into() })
+        },
     )
+    .labelled_by(|lookup, _, answer| Some(lookup.labels(&VALUE, answer)))
     .recorded_as(lookup.if_recorded(Operation::Value))
 }

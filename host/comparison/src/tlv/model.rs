@@ -1,10 +1,11 @@
-//! A model of BER records in both readings, from document 01. If the Rust returns `None`, the model says whether that
-//! is 11 or 12. It is the reference for the standard reading, which the Rust does not have, and which document 01 takes
-//! from EMV Book 3 Annex B; and for numbers in a path that no tag of the Rust can hold.
+//! A model of BER records in both readings, from document 01, and of the places that request 2 of document 02 adds. If
+//! the Rust returns `None` for a tag or a length, the model says whether that is 11 or 12. It is the reference for the
+//! standard reading, which the Rust does not have, and which document 01 takes from EMV Book 3 Annex B; and for numbers
+//! in a path that no tag of the Rust can hold.
 
-use std::ops::Range;
+use gorvisclen::{CRATE_READING, LEN_NUMBERS, LOOKUP_NUMBERS, OBJECT_NUMBERS, TAG_NUMBERS};
 
-use gorvisclen::CRATE_READING;
+use crate::answer::Told;
 
 /// The end at an object boundary.
 const END: u8 = 11;
@@ -36,13 +37,13 @@ fn tag_len(reading: u8, bytes: &[u8]) -> Result<usize, u8> {
 }
 
 /// A tag: its number, and how many bytes it takes.
-pub fn tag(reading: u8, bytes: &[u8]) -> Result<[u64; 2], u8> {
+pub fn tag(reading: u8, bytes: &[u8]) -> Result<[u64; TAG_NUMBERS], u8> {
     let len = tag_len(reading, bytes)?;
     Ok([number(&bytes[..len]), len as u64])
 }
 
 /// A length, and how many bytes it takes. Both readings read it the same way.
-pub fn len(bytes: &[u8]) -> Result<[u64; 2], u8> {
+pub fn len(bytes: &[u8]) -> Result<[u64; LEN_NUMBERS], u8> {
     match *bytes {
         [l @ 0x00..=0x7F, ..] => Ok([l.into(), 1]),
         [0x81, l, ..] => Ok([l.into(), 2]),
@@ -51,30 +52,38 @@ pub fn len(bytes: &[u8]) -> Result<[u64; 2], u8> {
     }
 }
 
-/// An object: its tag, the place of its value, the value's length.
-pub fn object(reading: u8, bytes: &[u8]) -> Result<[u64; 3], u8> {
-    let [tag, tag_len] = tag(reading, bytes)?;
-    let [len, len_len] = len(&bytes[tag_len as usize..])?;
-    let place = tag_len + len_len;
-    if place + len > bytes.len() as u64 {
-        return Err(UNREADABLE);
+/// The object at a place of a record: its place, its tag, the place of its value, the value's length. 11 is at the end
+/// of the record, 12 at the object's first byte.
+pub fn object(reading: u8, record: &[u8], at: usize) -> Told<OBJECT_NUMBERS> {
+    let at = at.min(record.len());
+    let bytes = &record[at..];
+    let at = at as u64;
+    let refused = |number| (number, [at, 0, 0, 0]);
+    let [tag, tag_len] = tag(reading, bytes).map_err(refused)?;
+    let [len, len_len] = len(&bytes[tag_len as usize..]).map_err(refused)?;
+    let head = tag_len + len_len;
+    if head + len > bytes.len() as u64 {
+        return Err(refused(UNREADABLE));
     }
-    Ok([tag, place, len])
+    Ok([at, tag, at + head, len])
 }
 
-/// The part of a record at a path: at each level the value of the first object with the tag.
-pub fn lookup(reading: u8, record: &[u8], path: &[u32]) -> Result<Range<usize>, u8> {
-    let mut part = 0..record.len();
-    for &wanted in path {
-        let mut at = part.start;
-        part = loop {
-            let [tag, place, len] = object(reading, &record[at..part.end])?;
-            let start = at + place as usize;
-            at = start + len as usize;
+/// The value at a path: its place in the record, its length, and how many tags matched. At each level the first object
+/// with the tag is entered, and the record is read up to the end of its value. A refusal has its place in the record,
+/// no length, and how many tags matched before it.
+pub fn lookup(reading: u8, record: &[u8], path: &[u32]) -> Told<LOOKUP_NUMBERS> {
+    let (mut start, mut end) = (0, record.len());
+    for (matched, &wanted) in (0..).zip(path) {
+        let mut at = start;
+        loop {
+            let object = object(reading, &record[..end], at);
+            let [_, tag, value, len] = object.map_err(|(number, [place, ..])| (number, [place, 0, matched]))?;
+            at = (value + len) as usize;
             if tag == wanted.into() {
-                break start..at;
+                (start, end) = (value as usize, at);
+                break;
             }
-        };
+        }
     }
-    Ok(part)
+    Ok([start, end - start, path.len()].map(|n| n as u64))
 }

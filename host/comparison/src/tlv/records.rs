@@ -1,5 +1,7 @@
 //! Random records of nested objects, and paths to look up in them.
 
+use std::ops::Range;
+
 use crate::random::Random;
 
 /// Tags that both readings read, of one, two and three bytes. Some are next to tags that are refused.
@@ -16,6 +18,21 @@ const DIFFERING: [u32; 12] =
 const NO_TAGS: [u32; 14] = [
     0x1F, 0x5F, 0xFF, 0x0124, 0x5A00, 0x5F1D, 0x5F80, 0x5F8181, 0x015F24, 0x5F2400, 0x01000000, 0x01005F24, 0x5F240000,
     0xFFFFFFFF,
+];
+
+/// The tag of a template that contains other records. It is none of the tags above.
+const TEMPLATE: u32 = 0x7F4E;
+
+/// Bytes that no reading reads as an object: because of the tag, of the length, or of a value past the end of a short
+/// record.
+const UNREADABLE: [&[u8]; 7] = [
+    &[0x1F, 0x80],
+    &[0x5F, 0x00],
+    &[0xDF, 0x81, 0x81],
+    &[0x5A, 0x80],
+    &[0x5F, 0x24, 0x83],
+    &[0x5A, 0x7F],
+    &[0xDF, 0x81, 0x01, 0x82, 0xFF, 0xFF],
 ];
 
 /// The bytes of a record, and the paths to its objects.
@@ -110,21 +127,47 @@ fn small_objects(random: &mut Random, len: usize) -> Record {
 /// A long record of small objects, then a template, then one last object. In the template are small objects of `inner`
 /// bytes or a few more, and the last object too. The paths lead to the last object of the record and of the template.
 pub fn long_record(random: &mut Random, outer: usize, inner: usize) -> Record {
-    let (last, template) = (TAGS[TAGS.len() - 1], 0x7F4E);
+    let last = TAGS[TAGS.len() - 1];
     let end = Record { bytes: vec![0x26, 0x10, 0x09], ..Record::default() };
     let mut inside = small_objects(random, inner);
     inside.add(random, last, end.clone());
     let mut record = small_objects(random, outer);
-    record.add(random, template, inside);
+    record.add(random, TEMPLATE, inside);
     record.add(random, last, end);
-    record.paths = vec![vec![last], vec![template, last]];
+    record.paths = vec![vec![last], vec![TEMPLATE, last]];
     record
+}
+
+/// A record in which these bytes are the value of a template in a template, and so on, of `depth` templates. In each
+/// there are small objects before the next one and any bytes after it. The path leads to the bytes.
+pub fn in_templates(random: &mut Random, bytes: &[u8], depth: usize) -> Record {
+    let mut bytes = bytes.to_vec();
+    for _ in 0..depth {
+        let before = random.below(8);
+        let mut outer = small_objects(random, before);
+        outer.add(random, TEMPLATE, Record { bytes, ..Record::default() });
+        outer.bytes.extend(random_value(random));
+        bytes = outer.bytes;
+    }
+    Record { bytes, paths: vec![vec![TEMPLATE; depth]] }
+}
+
+/// A copy of a record in which the object at the start of a part can often not be read. No other part is changed.
+pub fn unreadable_at(random: &mut Random, record: &[u8], part: Range<usize>) -> Vec<u8> {
+    let mut copy = record.to_vec();
+    copy[part].iter_mut().zip(random.one_of(&UNREADABLE)).for_each(|(byte, &new)| *byte = new);
+    copy
+}
+
+/// A number that is no tag in either reading.
+pub fn no_tag(random: &mut Random) -> u32 {
+    random.one_of(&NO_TAGS)
 }
 
 /// A random number for a path: a tag, a tag that not both readings read, or no tag at all.
 fn random_number(random: &mut Random) -> u32 {
     match random.below(4) {
-        0 => random.one_of(&NO_TAGS),
+        0 => no_tag(random),
         1 => random.one_of(&DIFFERING),
         _ => random_tag(random),
     }

@@ -166,11 +166,12 @@ fn read_back(tally: &mut Tally, random: &mut Random, tag: u32) {
     // After a refusal there is nothing to read, and the comparison fails.
     let _ = gorvisclen::put_data_object(object(tag, value).0, value, &mut buffer, at, &mut [0]);
 
-    let record = &buffer[at..];
-    let place = tag_bytes(tag).len() + length_forms(n)[0].len();
-    let answer = [tag.into(), place as u64, n as u64];
-    take::Object::call(STANDARD_READING, record).compare_with_table(tally, READ_BACK, &Ok(answer.into()), 0);
-    Lookup::new(STANDARD_READING, record, &[tag]).compare_with_table(tally, READ_BACK, Ok((place, value)));
+    let head = tag_bytes(tag).len() + length_forms(n)[0].len();
+    let answer = [at as u64, tag.into(), (at + head) as u64, n as u64].into();
+    let object = take::Object { reading: STANDARD_READING, at };
+    object.call(&buffer).compare_with_table(tally, READ_BACK, &Ok(answer), 0);
+    let found = Ok((head as u64, value, 1));
+    Lookup::new(STANDARD_READING, &buffer[at..], &[tag]).compare_with_table(tally, READ_BACK, found);
 }
 
 /// A random object, in buffers that it just fits, and in a random buffer from a random place; and a tag that is read
