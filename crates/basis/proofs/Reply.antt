@@ -55,8 +55,3 @@ module _ {E A : Type 0} (P : A → Type 0) where
   pub all-weaken : (Q : A → Type 0) (x : Told E A) → ((a : A) → Q a → P a) → All Q x → All P x
   all-weaken Q (ok a) f h = f a h
   all-weaken Q (refused k) f h = tt
-
-  -- two ways to go on that agree on the value that the reply gives
-  pub then-same : {B : Type 0} (x : Told E A) (f g : A → Told E B) → All P x → ((a : A) → P a → f a ≡ g a) → then x f ≡ then x g
-  then-same (ok a) f g h e = e a h
-  then-same (refused k) f g h e = refl

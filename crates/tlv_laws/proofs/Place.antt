@@ -1,7 +1,7 @@
 -- Where a lookup ends, and how many tags of its path matched (rules 15.2 to 15.5).
-use Prim.Native.Nat.{ℕ, suc, _+_, _-_, _≤_, _<_}
+use Prim.Native.Nat.{ℕ, suc, _+_, _≤_}
 use mathlib.Core.Path.{_≡_, refl, sym, ap, _∙_, subst}
-use mathlib.Core.Logic.{_⊎_, inl, inr}
+use mathlib.Core.Logic.{inl, inr}
 use mathlib.Core.List.{List, [], _∷_, _++_}
 use native.Mathlib.Nat.{zero-add, add-zero, add-sub-cancel-left, min-eq-left, min-eq-right}
 use native.Mathlib.Omega.{arith}

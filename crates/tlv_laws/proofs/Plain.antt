@@ -1,6 +1,6 @@
 -- Without the numbers of request 2 the reply of a lookup is document 01's (rule 15.6).
 use Prim.Native.Nat.{ℕ, _+_}
-use mathlib.Core.Path.{_≡_, refl, sym, _∙_}
+use mathlib.Core.Path.{_≡_, refl}
 use mathlib.Core.List.{List, [], _∷_}
 use lib.Dec.{eqb}
 use Rattle.basis.proofs.Reply.{by-reply}

@@ -14,7 +14,7 @@ use Rattle.basis.specs.Over.{overAt}
 use Rattle.basis.proofs.Reply.{by-reply, refused-not-ok}
 use Rattle.basis.proofs.Over.{length-over-at}
 use Rattle.tlv.specs.Object.{Object, sizeOf, objectOf}
-use Rattle.tlv.specs.Lookup.{Span, part, wholeRecord, seek, Found, Halt, foundBy, spanOf, follow, lookup, valueIn}
+use Rattle.tlv.specs.Lookup.{part, wholeRecord, seek, Found, Halt, foundBy, spanOf, follow, lookup, valueIn}
 use Rattle.tlv.specs.declared.Reading.{Reading}
 use Rattle.tlv.proofs.Within.{object-inside}
 use Rattle.tlv.proofs.Walk.{lookup-inside}

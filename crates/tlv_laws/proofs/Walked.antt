@@ -7,7 +7,7 @@ use native.Mathlib.Nat.{add-assoc, add-sub-cancel-left}
 use native.Mathlib.Omega.{arith}
 use lib.ListN.{length, drop, length-drop}
 use lib.Seq.{drop-drop}
-use Rattle.basis.specs.Reply.{ok, refused}
+use Rattle.basis.specs.Reply.{refused}
 use Rattle.tlv.specs.Object.{Object, sizeOf, objectOf, Item, Stop, itemAt}
 use Rattle.tlv.specs.Walk.{Walk, withItem, walk}
 use Rattle.tlv.specs.declared.Reading.{Reading}

@@ -33,13 +33,14 @@ exported! {
     fn take_data_object(reading: u8, record: bytes, at: usize, out: numbers);
 
     /// Looks up the value at a path of tags, in 3 numbers: its place in `record`; its length; how many tags matched,
-    /// which is all of them. Each tag is one number. At each level the first object with the tag is entered. An empty
-    /// path gives the whole record: place 0, its length, no tag. A number that is no tag matches nothing.
-    /// Refusals: 11 if the end of a level is reached without the tag; 12 if an object of it cannot be read before that,
-    /// also one that runs past the value entered; 16. With 11 and 12 the 3 numbers are written too: the place
-    /// in `record` of the end of that level, or of the object that cannot be read; 0; how many tags matched before.
-    /// The end of the first level is the end of `record`; of a later one, that of the value entered last. If `out` is
-    /// too short, nothing is written, and 11 and 12 are replied before 16.
+    /// which is all of them. Each tag is one number; a number that is no tag matches nothing. At each level the first
+    /// object with the tag is entered, primitive or not. An empty path gives the whole record: place 0, its length,
+    /// no tag.
+    /// Refusals: 11 if the end of a level is reached without the tag; 12 if an object before that cannot be read, also
+    /// one that runs past the value entered; 16. With 11 and 12 the 3 numbers are written too: the place in `record` of
+    /// the end of that level, or of the object that cannot be read; 0; how many tags matched before. The end of the
+    /// first level is the end of `record`; of a later one, that of the value entered last. If `out` is too short,
+    /// nothing is written, and 11 and 12 are replied before 16.
     fn get_data_object(reading: u8, record: bytes, path: tags, out: numbers);
 
     /// Looks up the value at a path of tags, copies it to the front of `to`, and writes the 3 numbers of
