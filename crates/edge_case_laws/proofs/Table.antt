@@ -7,7 +7,8 @@ use Rattle.class.specs.Channel.{furtherOf, channelOf}
 use Rattle.class.specs.Range.{rangeOf}
 use Rattle.aid.specs.Category.{categoryOf}
 use Rattle.aid.specs.Making.{underFive, tested, tryNew}
-use Rattle.tlv.specs.Tag.{inRange, crateTagSize, standardTagSize, tagSize, crateThirdByte, thirdByte, threeBytes, longTag, tagOf}
+use Rattle.tlv.specs.Padding.{zeros, padding}
+use Rattle.tlv.specs.Tag.{inRange, crateTagSize, standardTagSize, tagSize, crateThirdByte, thirdByte, threeBytes, longTag, tagOf, tagAlone}
 use Rattle.tlv.specs.Len.{lenTo82}
 use Rattle.command.specs.Body.{shortBody, longBody, extendedBody, extendedByStandard, bodyOf}
 use Rattle.builder.specs.Cases.{caseFor}
@@ -18,7 +19,7 @@ use Rattle.edge_case_laws.specs.Table.{table, Answered, TableHolds}
 
 -- P1 to P10, two rows each: what is read
 p1-to-p10 : Every Answered (take 20 table)
-unfolding furtherOf channelOf rangeOf inRange crateTagSize standardTagSize tagSize crateThirdByte thirdByte threeBytes longTag tagOf lenTo82 shortBody longBody extendedBody extendedByStandard bodyOf
+unfolding furtherOf channelOf rangeOf inRange crateTagSize standardTagSize tagSize crateThirdByte thirdByte threeBytes longTag tagOf tagAlone padding zeros lenTo82 shortBody longBody extendedBody extendedByStandard bodyOf
 p1-to-p10 = (refl, (refl, (refl, (refl, (refl, (refl, (refl, (refl, (refl, (refl, (refl, (refl, (refl, (refl, (refl, (refl, (refl, (refl, (refl, (refl, tt))))))))))))))))))))
 
 -- P11 and P12: a cut, and an AID

@@ -9,7 +9,7 @@ use Rattle.class.specs.Channel.{channelOf}
 use Rattle.class.specs.declared.Reading.{Reading}
 use Rattle.class.specs.declared.Reading.the-variants.{Crate, Standard}
 use Rattle.aid.specs.Making.{tryNew}
-use Rattle.tlv.specs.Tag.{tagOf}
+use Rattle.tlv.specs.Tag.{tagAlone}
 use Rattle.tlv.specs.Len.{lenOf}
 use Rattle.tlv.specs.declared.Reading.{Reading as TlvReading}
 use Rattle.tlv.specs.declared.Reading.the-variants as tlv
@@ -40,7 +40,7 @@ dataLength p = length (p .«data»)
 -- what the definitions answer: a refusal, or numbers. Of a body: Lc and Le. Of a cut: the data bytes of each part
 abbrev pub answerTo : Question → Reply (List ℕ)
 answerTo (body r s) = then (bodyOf r s) (λ b. ok (b .lc ∷ b .le ∷ []))
-answerTo (tag r s) = then (tagOf r s) (λ t. ok (t .number ∷ []))
+answerTo (tag r s) = then (tagAlone r s) (λ t. ok (t .number ∷ []))
 answerTo (len r s) = then (lenOf r s) (λ n. ok (n .number ∷ []))
 answerTo (channel r c) = ok (numberIn (channelOf r c))
 answerTo (cut n e m) = ok (map dataLength (parts (shortOf 0 0 0 0 e) (replicate n 0) m))

@@ -4,6 +4,7 @@ use mathlib.Core.Path.{_≡_, refl, sym, ap}
 use mathlib.Core.Bool.{cond}
 use mathlib.Core.List.{List, [], _∷_, _++_}
 use native.Mathlib.Omega.{arith}
+use native.Mathlib.Nat.{add-zero}
 use lib.Dec.{eqb}
 use lib.ListN.{take, drop}
 use borrow.Author.Tests.{lt-ltb, le-ltb}
@@ -11,9 +12,10 @@ use Rattle.basis.specs.Reply.{ok, refused}
 use Rattle.class.specs.declared.Reading.the-variants as class-reading
 use Rattle.command.specs.Command.{parse}
 use Rattle.command.specs.declared.CommandView.{CommandView}
-use Rattle.tlv.specs.Object.{Object, sizeOf, objectOf, Item, Stop, placed}
+use Rattle.tlv.specs.Object.{Item, Stop, nextOf, sizeOf, moved}
 use Rattle.tlv.specs.Walk.{walk}
 use Rattle.tlv.specs.declared.Reading.the-variants.{Crate}
+use Rattle.tlv.proofs.Within.{crate-stop}
 use Rattle.tlv.proofs.Walk.{walk-refused, walk-met, walk-stopped, walk-item}
 use Rattle.listing.specs.declared.lines.Section.{Section}
 use Rattle.listing.specs.Input.{pair, items, itemsAt}
@@ -56,30 +58,30 @@ unfolding objectLines
 lines-first k s = refl
 
 module _ (k j a : ℕ) (s : List ℕ) where
-  pub lines-stop : (r : ℕ) → objectOf Crate s ≡ refused r
-      → linesFrom k j a s ≡ cond (eqb r 11) [] (line "%.% refused % at %\n" (k ∷ j ∷ r ∷ a ∷ []))
+  pub lines-stop : (e : Stop) → nextOf Crate s ≡ refused e
+      → linesFrom k j a s ≡ cond (eqb (e .number) 11) [] (line "%.% refused % at %\n" (k ∷ j ∷ e .number ∷ a ∷ []))
   unfolding walkLines
-  lines-stop r e = rw (walk-refused Crate a s r e)
+  lines-stop e h = rw (walk-refused Crate a s e h, crate-stop s e h .0, add-zero)
 
-  pub lines-next : (o : Object) → objectOf Crate s ≡ ok o
+  pub lines-next : (o : Item) → nextOf Crate s ≡ ok o
       → linesFrom k j a s ≡ objectLine k j (o .tag) (o .len) ++ linesFrom k (j + 1) (a + sizeOf o) (drop (sizeOf o) s)
   unfolding walkLines
   lines-next o e = rw (walk-met Crate a s o e)
 
   -- the same by what is read at place a: the end, 12 with its place (rules 10.7 and 10.8), or an object
-  lines-stopped : (e : Stop) → placed a (objectOf Crate s) ≡ refused e
+  lines-stopped : (e : Stop) → moved a (nextOf Crate s) ≡ refused e
       → linesFrom k j a s ≡ cond (eqb (e .number) 11) [] (line "%.% refused % at %\n" (k ∷ j ∷ e .number ∷ e .place ∷ []))
   unfolding walkLines
   lines-stopped e h = rw (walk-stopped Crate a s e h)
 
-  pub lines-end : (n : ℕ) → placed a (objectOf Crate s) ≡ refused (record { number = 11; place = n }) → linesFrom k j a s ≡ []
+  pub lines-end : (n : ℕ) → moved a (nextOf Crate s) ≡ refused (record { number = 11; place = n }) → linesFrom k j a s ≡ []
   lines-end n h = lines-stopped (record { number = 11; place = n }) h
 
-  pub lines-12 : (n : ℕ) → placed a (objectOf Crate s) ≡ refused (record { number = 12; place = n })
+  pub lines-12 : (n : ℕ) → moved a (nextOf Crate s) ≡ refused (record { number = 12; place = n })
       → linesFrom k j a s ≡ line "%.% refused % at %\n" (k ∷ j ∷ 12 ∷ n ∷ [])
   lines-12 n h = lines-stopped (record { number = 12; place = n }) h
 
-  pub lines-item : (i : Item) → placed a (objectOf Crate s) ≡ ok i
+  pub lines-item : (i : Item) → moved a (nextOf Crate s) ≡ ok i
       → linesFrom k j a s ≡ objectLine k j (i .tag) (i .len) ++ linesFrom k (j + 1) (i .at + i .len) (drop (i .at + i .len - a) s)
   unfolding walkLines
   lines-item i h = rw (walk-item Crate a s i h)

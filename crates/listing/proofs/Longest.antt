@@ -17,8 +17,9 @@ use Rattle.command.specs.Command.{parse}
 use Rattle.command.specs.declared.CommandView.{CommandView}
 use Rattle.command.proofs.Parsing.{within}
 use Rattle.tlv.specs.Tag.{tagOf}
-use Rattle.tlv.specs.Object.{sizeOf, objectOf}
+use Rattle.tlv.specs.Object.{objectOf, sizeOf}
 use Rattle.tlv.specs.declared.Reading.the-variants.{Crate}
+use Rattle.tlv.proofs.Within.{crate-stop}
 use Rattle.tlv.proofs.Walk.{by-objects}
 use Rattle.listing.specs.declared.lines.Section.{Section}
 use Rattle.listing.specs.declared.lines.Section.the-variants.{Commands, Records}
@@ -119,7 +120,8 @@ module _ (k : ℕ) (h : k < 100000) where
       → length (linesFrom k j a s) ≤ 26 + 13 * length s
   objects-few =
       by-objects Crate (λ a s. (j : ℕ) → a + length s < 100000 → j + length s < 100000 → length (linesFrom k j a s) ≤ 26 + 13 * length s)
-      (λ a s r e j f g. rw (lines-stop k j a s r e) (stopped-few a s j r e (omega (arith, f)) (omega (arith, g))))
+      (λ a s e h j f g.
+      rw (lines-stop k j a s e h) (stopped-few a s j (e .number) (crate-stop s e h .1) (omega (arith, f)) (omega (arith, g))))
       (λ a s o e w deeper j f g.
       let rest = linesFrom k (j + 1) (a + sizeOf o) (drop (sizeOf o) s) in
       let few = deeper (j + 1) (omega (arith, f, w, length-drop (sizeOf o) s)) (omega (arith, g, w, length-drop (sizeOf o) s)) in

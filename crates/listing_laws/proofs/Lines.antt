@@ -11,12 +11,12 @@ use Rattle.basis.specs.Reply.{ok, refused}
 use Rattle.class.specs.declared.Reading.the-variants.{Crate}
 use Rattle.command.specs.Command.{parse}
 use Rattle.command.specs.declared.CommandView.{CommandView}
-use Rattle.tlv.specs.Object.{objectOf, Item, Stop}
+use Rattle.tlv.specs.Object.{Item, Stop}
 use Rattle.tlv.specs.Walk.{walk}
 use Rattle.tlv.specs.declared.Reading.the-variants as tlv
-use Rattle.tlv.specs.Tag.{tagOf}
 use Rattle.basis.specs.Ascii.{ascii}
 use Rattle.listing.specs.Text.{hexDigit, hex, decimal, formText, takesNumber, filled, lineNumbers, line, commandLine, walkLines, objectLines}
+use Rattle.tlv.proofs.Walk.{next-nothing}
 use Rattle.listing.proofs.LineLaws.{refused-line, view-line, lines-first, lines-end}
 use Rattle.listing_laws.specs.Lines.{commandWords, objectsLines, stopWords}
 
@@ -50,8 +50,7 @@ record-shown k s = let w = walk tlv.Crate 0 s in walk-shown k 1 (w .items) (w .s
 
 -- a record of no bytes is at its end: 11, which prints nothing (rule 10.8)
 pub empty-record : (k : ℕ) → objectLines k [] ≡ []
-unfolding objectOf tagOf
-empty-record k = lines-first k [] ∙ lines-end k 1 0 [] 0 refl
+empty-record k = lines-first k [] ∙ lines-end k 1 0 [] 0 (rw (next-nothing tlv.Crate))
 
 -- every hexadecimal digit, high and low (rule 10.9)
 pub hexadecimal : hex 0x01 ++ (hex 0x23 ++ (hex 0x45 ++ (hex 0x67 ++ (hex 0x89 ++ (hex 0xAB ++ (hex 0xCD ++ hex 0xEF))))))

@@ -2,6 +2,7 @@
 use Prim.Native.Nat.{ℕ, _+_, _-_, _*_, _/_, _%_, _≤_, _<_}
 use mathlib.Core.Path.{_≡_, refl, sym, ap, _∙_}
 use mathlib.Core.List.{List, [], _∷_, _++_, append-nil, append-assoc}
+use native.Mathlib.Nat.{add-zero}
 use native.Mathlib.Omega.{arith}
 use lib.Dec.{ltb, leb, eqb}
 use lib.ListN.{length, getD, take, drop}
@@ -13,10 +14,11 @@ use Rattle.basis.specs.Reply.{Reply, ok, refused, then}
 use Rattle.basis.proofs.Reply.{All, all-is, all-cond, all-then, all-every}
 use Rattle.tlv.specs.Tag.{Tag, tagSize, thirdByte, threeBytes, longTag, tagOf}
 use Rattle.tlv.specs.Len.{lenOf}
-use Rattle.tlv.specs.Object.{Object, sizeOf, objectIn, objectOf}
+use Rattle.tlv.specs.Object.{Object, objectIn, objectOf, sizeOf}
 use Rattle.tlv.specs.Walk.{walk}
 use Rattle.tlv.specs.declared.Reading.the-variants.{Crate}
 use Rattle.tlv.proofs.Tags.{by-tag}
+use Rattle.tlv.proofs.Within.{crate-item}
 use Rattle.tlv.proofs.Walk.{walk-refused, walk-met, by-objects}
 use Rattle.listing.specs.Text.{hex, formText, takesNumber, filled, line, objectLine}
 use Rattle.listing.proofs.LineLaws.{line-one, line-two, line-three}
@@ -124,8 +126,9 @@ shown-from =
     (λ a s r e w b q k j. rw (walk-refused Crate a s r e) tt)
     (λ a s o e w′ deeper w b q k j.
     let small : Bytes s = λ i. rw (sym q) (omega (arith, b (a + i), getD-drop a w i 0)) in
-    let f = object-shows-front s small o e in
-    rw (walk-met Crate a s o e) (
+    let front = crate-item s o e in
+    let f = object-shows-front s small _ (front .1) in
+    rw (walk-met Crate a s o e, front .0, add-zero) (
       record {
         tag = f .tag;
         read = ap (tagOf Crate) q ∙ f .read;

@@ -1,15 +1,18 @@
--- What is read for the bytes of a tag (rules 6.1 to 6.4 and 6.8).
+-- What is read for the bytes of a tag (rules 6.1 to 6.4, 6.8 and 16.5).
 use Prim.Native.Nat.{ℕ, _+_, _*_, _%_, _≤_, _<_}
-use mathlib.Core.Path.{_≡_, refl}
+use mathlib.Core.Path.{_≡_, refl, sym, _∙_}
 use mathlib.Core.Bool.{true, false}
 use mathlib.Core.List.{List, []}
+use native.Mathlib.Decide.{decLe}
 use native.Mathlib.Omega.{arith}
 use lib.Dec.{ltb, eqb}
 use lib.ListN.{length, getD}
-use borrow.Author.Tests.{ltb-true, ltb-false, eqb-true, eqb-false, le-ltb, eq-eqb, ne-eqb}
+use borrow.Author.Tests.{ltb-true, ltb-false, eqb-true, eqb-false, le-ltb, le-leb, eq-eqb, ne-eqb}
 use Rattle.basis.specs.Reply.{Reply, ok, refused}
+use Rattle.basis.proofs.Reply.{refused-not-ok}
 use Rattle.basis.proofs.Truth.{on-cond}
-use Rattle.tlv.specs.Tag.{Tag, inRange, crateTagSize, standardTagSize, tagSize, crateThirdByte, thirdByte, threeBytes, longTag, tagOf}
+use Rattle.tlv.specs.Padding.{padding}
+use Rattle.tlv.specs.Tag.{Tag, inRange, crateTagSize, standardTagSize, tagSize, crateThirdByte, thirdByte, threeBytes, longTag, tagOf, tagAlone}
 use Rattle.tlv.specs.declared.Reading.{Reading}
 use Rattle.tlv.specs.declared.Reading.the-variants.{Crate, Standard}
 use Rattle.tlv.proofs.InRange.{inside, below, above}
@@ -134,6 +137,22 @@ module _ (r : Reading) (s : List ℕ) where
       (λ d. on-cond P (thirdByte r (getD s 2 0)) _ _
       (three (eqb-true b1 31 b) (ltb-false (length s) 3 d) (eqb-false k 0 z) (eqb-false k 2 w)) (λ _. unread some))))))
       (λ b. one some (eqb-false b1 31 b)))
+
+-- A tag read alone: where no padding stands it is the tag of an object, where padding stands there is none (rule 16.5).
+pub alone-unpadded : (r : Reading) (s : List ℕ) → padding r s ≡ 0 → tagAlone r s ≡ tagOf r s
+unfolding tagAlone
+alone-unpadded r s e = rw e
+
+pub alone-padded : (r : Reading) (s : List ℕ) → 1 ≤ padding r s → tagAlone r s ≡ refused 12
+unfolding tagAlone
+alone-padded r s h = rw (le-leb 1 (padding r s) h)
+
+pub alone-read : (r : Reading) (s : List ℕ) (t : Tag) → tagAlone r s ≡ ok t → (padding r s ≡ 0) × (tagOf r s ≡ ok t)
+alone-read r s t e =
+    elim (decLe 1 (padding r s)) [
+      | yes h ↦ absurd (refused-not-ok 12 t (sym (alone-padded r s h) ∙ e))
+      | no h ↦ let none : padding r s ≡ 0 = omega (arith, h) in (none, sym (alone-unpadded r s none) ∙ e)
+    ]
 
 -- Rule 6.2 in numbers: a second byte up to 1D is refused with 12, one from 1E to 7F ends a tag of two bytes.
 module _ (s : List ℕ) (two : 2 ≤ length s) (long : getD s 0 0 % 32 ≡ 31) where

@@ -4,99 +4,106 @@ use Prim.Native.Nat.{ℕ, zero, suc, _+_, _-_, _≤_, _<_}
 use mathlib.Core.Path.{_≡_, refl, sym, ap, _∙_}
 use mathlib.Core.Bool.{cond}
 use mathlib.Core.List.{List, [], _∷_}
-use native.Mathlib.Nat.{add-assoc}
+use native.Mathlib.Nat.{add-assoc, add-zero}
 use native.Mathlib.Numerals.{add-one}
 use native.Mathlib.Omega.{arith}
 use lib.Dec.{eqb}
 use lib.ListN.{length, getD, drop, length-drop, length-take, drop-of-length-le}
 use lib.Seq.{drop-cons}
 use borrow.Author.Tests.{eq-eqb, ne-eqb}
-use Rattle.basis.specs.Reply.{Reply, ok, refused}
+use Rattle.basis.specs.Reply.{Told, ok, refused}
 use Rattle.basis.proofs.Reply.{All, by-reply, all-is, all-cond, all-weaken, refused-not-ok}
 use Rattle.tlv.specs.Tag.{tagOf}
-use Rattle.tlv.specs.Object.{Object, sizeOf, objectOf, Item, Stop, itemAt, placed}
+use Rattle.tlv.specs.Object.{objectOf, Item, Stop, nextOf, sizeOf, movedItem, movedStop, moved}
 use Rattle.tlv.specs.Walk.{Walk, withItem, walkOn, walkIn, walk}
 use Rattle.tlv.specs.Lookup.{Span, part, wholeRecord, firstValue, seek, Found, spanOf, follow, lookup}
 use Rattle.tlv.specs.declared.Reading.{Reading}
-use Rattle.tlv.proofs.Within.{Ends, object-within, object-inside}
+use Rattle.tlv.proofs.Zeros.{padding-nothing}
+use Rattle.tlv.proofs.Within.{Ends, next-within, next-inside}
 
 -- two ways to go on that agree after every object within the bytes give the same walk
-onward-same : (a m : ℕ) (f g : Object → Walk) (x : Reply Object) → All (Ends m) x → ((o : Object) → Ends m o → f o ≡ g o)
+onward-same : (a m : ℕ) (f g : Item → Walk) (x : Told Stop Item) → All (Ends m) x → ((i : Item) → Ends m i → f i ≡ g i)
     → walkOn a f x ≡ walkOn a g x
-onward-same a m f g (ok o) h e = ap (withItem (itemAt a o)) (e o h)
+onward-same a m f g (ok i) h e = ap (withItem (movedItem a i)) (e i h)
 onward-same a m f g (refused k) h e = refl
+
+-- from no bytes: 11, at their end (rule 1.11)
+pub next-nothing : (r : Reading) → nextOf r [] ≡ refused (record { number = 11; place = 0 })
+unfolding nextOf objectOf tagOf
+next-nothing r = rw (padding-nothing r)
 
 module _ (r : Reading) where
   -- any two bounds that are not below the number of bytes give the same walk
   any-bound : (n m a : ℕ) (s : List ℕ) → length s ≤ n → length s ≤ m → walkIn n r a s ≡ walkIn m r a s
-  unfolding walkIn objectOf tagOf
+  unfolding walkIn
   any-bound zero zero a s h g = refl
-  any-bound zero (suc m) a [] h g = refl
+  any-bound zero (suc m) a [] h g = rw (next-nothing r, add-zero)
   any-bound zero (suc m) a (x ∷ s) h g = absurd (omega arith)
-  any-bound (suc n) zero a [] h g = refl
+  any-bound (suc n) zero a [] h g = rw (next-nothing r, add-zero)
   any-bound (suc n) zero a (x ∷ s) h g = absurd (omega arith)
   any-bound (suc n) (suc m) a s h g =
-      onward-same a (length s) _ _ (objectOf r s) (object-within r s) (λ o w.
-      any-bound n m (a + sizeOf o) (drop (sizeOf o) s) (simp length-drop (omega arith)) (simp length-drop (omega arith)))
+      onward-same a (length s) _ _ (nextOf r s) (next-within r s) (λ i w.
+      any-bound n m (a + sizeOf i) (drop (sizeOf i) s) (simp length-drop (omega arith)) (simp length-drop (omega arith)))
 
   -- the walk is an object and the walk after it, or the stop
-  pub walk-is : (a : ℕ) (s : List ℕ) → walk r a s ≡ walkOn a (λ o. walk r (a + sizeOf o) (drop (sizeOf o) s)) (objectOf r s)
+  pub walk-is : (a : ℕ) (s : List ℕ) → walk r a s ≡ walkOn a (λ i. walk r (a + sizeOf i) (drop (sizeOf i) s)) (nextOf r s)
   unfolding walk walkIn
   walk-is a s =
       any-bound (length s) (suc (length s)) a s (omega arith) (omega arith)
-      ∙ onward-same a (length s) _ _ (objectOf r s) (object-within r s) (λ o w.
-      any-bound (length s) (length (drop (sizeOf o) s)) (a + sizeOf o) (drop (sizeOf o) s) (simp length-drop (omega arith)) (omega arith))
+      ∙ onward-same a (length s) _ _ (nextOf r s) (next-within r s) (λ i w.
+      any-bound (length s) (length (drop (sizeOf i) s)) (a + sizeOf i) (drop (sizeOf i) s) (simp length-drop (omega arith)) (omega arith))
 
-  pub walk-refused : (a : ℕ) (s : List ℕ) (k : ℕ) → objectOf r s ≡ refused k
-      → walk r a s ≡ record { items = []; stop = record { number = k; place = a } }
-  walk-refused a s k e = rw (walk-is a s, e)
+  pub walk-refused : (a : ℕ) (s : List ℕ) (e : Stop) → nextOf r s ≡ refused e
+      → walk r a s ≡ record { items = []; stop = record { number = e .number; place = a + e .place } }
+  walk-refused a s e h = rw (walk-is a s, h)
 
-  pub walk-met : (a : ℕ) (s : List ℕ) (o : Object) → objectOf r s ≡ ok o → let w = walk r (a + sizeOf o) (drop (sizeOf o) s) in
-      walk r a s ≡ record { items = record { place = a; tag = o .tag; at = a + o .at; len = o .len } ∷ w .items; stop = w .stop }
-  walk-met a s o e = rw (walk-is a s, e)
+  pub walk-met : (a : ℕ) (s : List ℕ) (i : Item) → nextOf r s ≡ ok i → let w = walk r (a + sizeOf i) (drop (sizeOf i) s) in
+      walk r a s
+      ≡ record { items = record { place = a + i .place; tag = i .tag; at = a + i .at; len = i .len } ∷ w .items; stop = w .stop }
+  walk-met a s i h = rw (walk-is a s, h)
 
   -- the same by what is read at place a
-  pub walk-stopped : (a : ℕ) (s : List ℕ) (e : Stop) → placed a (objectOf r s) ≡ refused e → walk r a s ≡ record { items = []; stop = e }
+  pub walk-stopped : (a : ℕ) (s : List ℕ) (e : Stop) → moved a (nextOf r s) ≡ refused e → walk r a s ≡ record { items = []; stop = e }
   walk-stopped a s e h =
-      by-reply (objectOf r s) (λ o f. absurd (refused-not-ok e _ (sym (rw f at h)))) (λ k f.
-      let same : record { number = k; place = a } ≡ e = cc (rw f at h) in
+      by-reply (nextOf r s) (λ i f. absurd (refused-not-ok e _ (sym (rw f at h)))) (λ k f.
+      let same : movedStop a k ≡ e = cc (rw f at h) in
       walk-refused a s k f ∙ ap (λ (x : Stop). record { items = []; stop = x }) same)
 
-  pub walk-item : (a : ℕ) (s : List ℕ) (i : Item) → placed a (objectOf r s) ≡ ok i
+  pub walk-item : (a : ℕ) (s : List ℕ) (i : Item) → moved a (nextOf r s) ≡ ok i
       → let w = walk r (i .at + i .len) (drop (i .at + i .len - a) s) in walk r a s ≡ record { items = i ∷ w .items; stop = w .stop }
   walk-item a s i h =
-      by-reply (objectOf r s) (λ o f.
-      let same : itemAt a o ≡ i = cc (rw f at h) in
+      by-reply (nextOf r s) (λ o f.
+      let same : movedItem a o ≡ i = cc (rw f at h) in
       let size : a + o .at + o .len - a ≡ sizeOf o = omega arith in
       let goes-on : Item → Walk = λ i. withItem i (walk r (i .at + i .len) (drop (i .at + i .len - a) s)) in
-      let here : walk r a s ≡ goes-on (itemAt a o) = rw (walk-met a s o f, size, add-assoc) in
+      let here : walk r a s ≡ goes-on (movedItem a o) = rw (walk-met a s o f, size, add-assoc) in
       here ∙ ap goes-on same)
       (λ k f. absurd (refused-not-ok _ i (rw f at h)))
 
   -- induction: what holds of bytes where no object is read, and of bytes with an object in front if it holds of the
   -- bytes after it, holds of all bytes
-  module _ (P : ℕ → List ℕ → Type 0) (none : (a : ℕ) (s : List ℕ) (k : ℕ) → objectOf r s ≡ refused k → P a s)
-      (some : (a : ℕ) (s : List ℕ) (o : Object) → objectOf r s ≡ ok o → Ends (length s) o
-      → P (a + sizeOf o) (drop (sizeOf o) s) → P a s) where
+  module _ (P : ℕ → List ℕ → Type 0) (none : (a : ℕ) (s : List ℕ) (e : Stop) → nextOf r s ≡ refused e → P a s)
+      (some : (a : ℕ) (s : List ℕ) (i : Item) → nextOf r s ≡ ok i → Ends (length s) i
+      → P (a + sizeOf i) (drop (sizeOf i) s) → P a s) where
     within-bound : (n a : ℕ) (s : List ℕ) → length s ≤ n → P a s
-    unfolding objectOf tagOf
-    within-bound zero a [] h = none a [] 11 refl
+    within-bound zero a [] h = none a [] _ (next-nothing r)
     within-bound zero a (x ∷ s) h = absurd (omega arith)
     within-bound (suc n) a s h =
-        by-reply (objectOf r s) (λ o e.
-        let w = all-is (Ends (length s)) (objectOf r s) o (object-within r s) e in
-        some a s o e w (within-bound n (a + sizeOf o) (drop (sizeOf o) s) (simp length-drop (omega arith)))) (none a s)
+        by-reply (nextOf r s) (λ i e.
+        let w = all-is (Ends (length s)) (nextOf r s) i (next-within r s) e in
+        some a s i e w (within-bound n (a + sizeOf i) (drop (sizeOf i) s) (simp length-drop (omega arith)))) (none a s)
 
     pub by-objects : (a : ℕ) (s : List ℕ) → P a s
     by-objects a s = within-bound (length s) a s (omega arith)
 
 module _ (r : Reading) (t : ℕ) where
   -- a search: no object is read; an object with the tag; another object, which is passed over whole (rule 6.11)
-  pub seek-refused : (a : ℕ) (s : List ℕ) (k : ℕ) → objectOf r s ≡ refused k → seek r t a s ≡ refused (record { number = k; place = a })
+  pub seek-refused : (a : ℕ) (s : List ℕ) (e : Stop) → nextOf r s ≡ refused e
+      → seek r t a s ≡ refused (record { number = e .number; place = a + e .place })
   unfolding seek firstValue
-  seek-refused a s k e = rw (walk-refused r a s k e)
+  seek-refused a s e h = rw (walk-refused r a s e h)
 
-  module _ (a : ℕ) (s : List ℕ) (o : Object) (e : objectOf r s ≡ ok o) where
+  module _ (a : ℕ) (s : List ℕ) (o : Item) (e : nextOf r s ≡ ok o) where
     pub seek-is : seek r t a s
         ≡ cond (eqb (o .tag) t) (ok (record { at = a + o .at; len = o .len })) (seek r t (a + sizeOf o) (drop (sizeOf o) s))
     unfolding seek firstValue
@@ -108,14 +115,14 @@ module _ (r : Reading) (t : ℕ) where
     pub seek-next : (o .tag ≡ t → ⊥) → seek r t a s ≡ seek r t (a + sizeOf o) (drop (sizeOf o) s)
     seek-next h = rw (seek-is, ne-eqb (o .tag) t h)
 
--- an object that is read at place a has a byte there, and its value ends within the bytes
-pub item-inside : (r : Reading) (a : ℕ) (s : List ℕ) (i : Item) → placed a (objectOf r s) ≡ ok i
-    → (a < i .at) × (i .at + i .len ≤ a + length s)
+-- an object that is read from place a on has a byte there, and its value ends within the bytes
+pub item-inside : (r : Reading) (a : ℕ) (s : List ℕ) (i : Item) → moved a (nextOf r s) ≡ ok i
+    → (a ≤ i .place) × (i .place < i .at) × (i .at + i .len ≤ a + length s)
 item-inside r a s i h =
-    by-reply (objectOf r s) (λ o e.
-    let w = object-inside r s o e in
-    let same : itemAt a o ≡ i = cc (rw e at h) in
-    omega (arith, w, ap (λ (j : Item). j .at) same, ap (λ (j : Item). j .len) same))
+    by-reply (nextOf r s) (λ o e.
+    let w = next-inside r s o e in
+    let same : movedItem a o ≡ i = cc (rw e at h) in
+    omega (arith, w, ap (λ (j : Item). j .place) same, ap (λ (j : Item). j .at) same, ap (λ (j : Item). j .len) same))
     (λ k e. absurd (refused-not-ok _ i (rw e at h)))
 
 -- a path from its tag number i on, in a part p of the record: the tag is refused; it is found, and its value is

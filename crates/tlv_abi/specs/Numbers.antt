@@ -7,7 +7,7 @@ use Rattle.basis.specs.Reply.{Told, Reply, ok, refused, then}
 use Rattle.abi.specs.Answers.{Row, row, RowTold, CopiedWith}
 use Rattle.abi.specs.Lookups.{lookupRow}
 use Rattle.abi.specs.Readings.{tlvReadingByNumber}
-use Rattle.tlv.specs.Tag.{Tag, tagOf}
+use Rattle.tlv.specs.Tag.{Tag, tagAlone}
 use Rattle.tlv.specs.Len.{Len, lenOf}
 use Rattle.tlv.specs.Object.{Item, Stop, objectAt}
 use Rattle.tlv.specs.Lookup.{part, Found, Halt, spanOf, lookup}
@@ -17,7 +17,7 @@ abbrev pub tagNumbers : Reply Tag → Reply (List ℕ)
 tagNumbers x = then x (λ t. ok (t .number ∷ t .size ∷ []))
 
 unfoldable pub takeTagReply : ℕ → List ℕ → Reply (List ℕ)
-takeTagReply n s = tagNumbers (tagOf (tlvReadingByNumber n) s)
+takeTagReply n s = tagNumbers (tagAlone (tlvReadingByNumber n) s)
 
 -- the numbers of a length: its number, and how many bytes it takes
 abbrev pub lenNumbers : Reply Len → Reply (List ℕ)

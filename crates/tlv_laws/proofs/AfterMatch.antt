@@ -14,7 +14,7 @@ use Rattle.tlv.specs.Object.{sizeOf}
 use Rattle.tlv.specs.Lookup.{Span, part, wholeRecord, seek, Found, Halt, spanOf, searched, follow, lookup}
 use Rattle.tlv.specs.declared.Reading.{Reading}
 use Rattle.tlv.proofs.Walk.{by-objects, seek-refused, seek-is, seek-here, seek-next, FoundIn, seek-inside, lookup-inside}
-use Rattle.tlv_laws.proofs.FrontOfBytes.{front-less, front-rest, object-front}
+use Rattle.tlv_laws.proofs.FrontOfBytes.{front-less, front-rest, next-front}
 
 -- a list s′ has the bytes of s up to the value found at one level, and room for that value: it is found there too
 module _ (r : Reading) (t : ℕ) where
@@ -31,14 +31,14 @@ module _ (r : Reading) (t : ℕ) where
       (λ h. (
         omega arith,
         λ s′ f g.
-            seek-here r t a s′ o (object-front r s s′ o e (rw add-sub-cancel-left at f) (omega arith)) (eqb-true (o .tag) t h),
+            seek-here r t a s′ o (next-front r s s′ o e (rw add-sub-cancel-left at f) (omega arith)) (eqb-true (o .tag) t h),
       ))
       (λ h. all-weaken (Kept a s) (Kept (a + k) (drop k s)) (seek r t (a + k) (drop k s)) (λ p z. (
         omega arith,
         λ s′ f g.
             let firstValue = front-less s s′ (p .at - a) f (o .at) (omega arith) in
             let rest = front-rest s s′ (p .at - a) f k (p .at - (a + k)) (omega arith) in
-            seek-next r t a s′ o (object-front r s s′ o e firstValue (omega arith)) (eqb-false (o .tag) t h)
+            seek-next r t a s′ o (next-front r s s′ o e firstValue (omega arith)) (eqb-false (o .tag) t h)
             ∙ z .1 (drop k s′) rest (simp length-drop (omega arith)),
       ))
       deeper)))

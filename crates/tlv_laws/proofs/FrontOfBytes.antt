@@ -1,21 +1,27 @@
--- What is read at the front of a list depends only on the bytes that it takes: a tag, a length, an object.
+-- What is read at the front of a list depends only on the bytes that it takes: a tag, a length, an object, the next
+-- object after padding.
 use Prim.Native.Nat.{ℕ, zero, suc, _+_, _-_, _≤_, _<_}
 use mathlib.Core.Path.{_≡_, refl, sym, ap, _∙_}
 use mathlib.Core.Bool.{true}
 use mathlib.Core.List.{List, [], _∷_}
 use native.Mathlib.Nat.{zero-add, suc-add}
 use native.Mathlib.Omega.{arith}
-use lib.Dec.{leb}
-use lib.ListN.{length, getD, take, drop, length-take}
+use lib.Dec.{leb, eqb}
+use lib.ListN.{length, getD, take, drop, length-take, length-drop}
 use lib.Seq.{getD-take, take-take, take-nil}
-use borrow.Author.Tests.{le-leb}
+use borrow.Author.Tests.{le-leb, eqb-true, eqb-false}
 use Rattle.basis.specs.Reply.{ok}
-use Rattle.basis.proofs.Reply.{All, all-is, all-cond, all-then}
+use Rattle.basis.proofs.Reply.{All, by-reply, all-is, all-cond, all-then}
 use Rattle.tlv.specs.Tag.{tagOf}
 use Rattle.tlv.specs.Len.{lenOf}
-use Rattle.tlv.specs.Object.{Object, sizeOf, objectOf}
+use Rattle.tlv.specs.Padding.{zeros, padding}
+use Rattle.tlv.specs.Object.{Object, objectOf, Item, nextOf, sizeOf}
 use Rattle.tlv.specs.declared.Reading.{Reading}
+use Rattle.tlv.specs.declared.Reading.the-variants.{Crate, Standard}
+use Rattle.tlv.proofs.Zeros.{zero-first, other-first, padding-within}
+use Rattle.tlv.proofs.Within.{object-inside}
 use Rattle.tlv.proofs.Tags.{tag-one, tag-two, tag-three, by-tag}
+use Rattle.tlv_laws.proofs.TruthValues.{by-test}
 use Rattle.tlv.proofs.Lengths.{len-in-both-readings, short-length, after-81, after-82, by-length}
 
 -- the first n + m bytes without the first n
@@ -78,10 +84,10 @@ module _ (s s′ : List ℕ) where
 
 -- an object is read in every list that has its tag and length in front and room for its value
 object-all : (r : Reading) (s s′ : List ℕ)
-    → All (λ o. take (o .at) s′ ≡ take (o .at) s → sizeOf o ≤ length s′ → objectOf r s′ ≡ ok o) (objectOf r s)
+    → All (λ o. take (o .at) s′ ≡ take (o .at) s → o .at + o .len ≤ length s′ → objectOf r s′ ≡ ok o) (objectOf r s)
 unfolding objectOf
 object-all r s s′ =
-    let P : Object → Type 0 = λ o. take (o .at) s′ ≡ take (o .at) s → sizeOf o ≤ length s′ → objectOf r s′ ≡ ok o in
+    let P : Object → Type 0 = λ o. take (o .at) s′ ≡ take (o .at) s → o .at + o .len ≤ length s′ → objectOf r s′ ≡ ok o in
     all-then P _ (tagOf r s) _ (tag-front s s′ r) (λ t f.
     all-then P _ (lenOf r (drop (t .size) s)) _ (len-front (drop (t .size) s) (drop (t .size) s′) r) (λ l g.
     all-cond P (leb (l .number) (length s - (t .size + l .size))) _ _
@@ -92,8 +98,49 @@ object-all r s s′ =
     rw (f (front-less s s′ (n + m) e n (omega arith)), g (front-rest s s′ (n + m) e n m refl), room))
     (λ _. tt)))
 
-pub object-front : (r : Reading) (s s′ : List ℕ) (o : Object) → objectOf r s ≡ ok o → take (o .at) s′ ≡ take (o .at) s
-    → sizeOf o ≤ length s′ → objectOf r s′ ≡ ok o
+object-front : (r : Reading) (s s′ : List ℕ) (o : Object) → objectOf r s ≡ ok o → take (o .at) s′ ≡ take (o .at) s
+    → o .at + o .len ≤ length s′ → objectOf r s′ ≡ ok o
 object-front r s s′ o e =
-    all-is (λ o. take (o .at) s′ ≡ take (o .at) s → sizeOf o ≤ length s′ → objectOf r s′ ≡ ok o) (objectOf r s) o
+    all-is (λ o. take (o .at) s′ ≡ take (o .at) s → o .at + o .len ≤ length s′ → objectOf r s′ ≡ ok o) (objectOf r s) o
     (object-all r s s′) e
+
+-- padding that ends within the bytes in common is the same
+zeros-front : (s s′ : List ℕ) (k : ℕ) → take k s′ ≡ take k s → zeros s < k → k ≤ length s → zeros s′ ≡ zeros s
+zeros-front s s′ zero e h g = absurd (omega arith)
+zeros-front [] s′ (suc k) e h g = absurd (omega arith)
+zeros-front (b ∷ s) [] (suc k) e h g = absurd (omega (arith, ap length e))
+zeros-front (b ∷ s) (c ∷ s′) (suc k) e h g =
+    let first : c ≡ b = ap (λ (l : List ℕ). getD l 0 0) e in
+    by-test (eqb b 0)
+    (λ f.
+    let z = eqb-true b 0 f in
+    let more = zero-first b s z in
+    let rest = zeros-front s s′ k (ap (drop 1) e) (omega (arith, more, h)) (omega (arith, g)) in
+    zero-first c s′ (first ∙ z) ∙ ap suc rest ∙ sym more)
+    (λ f. let n = eqb-false b 0 f in other-first c s′ (λ z. n (sym first ∙ z)) ∙ sym (other-first b s n))
+
+pub padding-front : (r : Reading) (s s′ : List ℕ) (k : ℕ) → take k s′ ≡ take k s → padding r s < k → k ≤ length s
+    → padding r s′ ≡ padding r s
+unfolding padding
+padding-front Crate s s′ k e h g = refl
+padding-front Standard s s′ k e h g = zeros-front s s′ k e h g
+
+-- so the next object is read in every list that has its padding, tag and length in front and room for its value
+next-all : (r : Reading) (s s′ : List ℕ)
+    → All (λ i. take (i .at) s′ ≡ take (i .at) s → sizeOf i ≤ length s′ → nextOf r s′ ≡ ok i) (nextOf r s)
+unfolding nextOf
+next-all r s s′ =
+    let n = padding r s in
+    by-reply (objectOf r (drop n s)) (λ o e.
+    let w = object-inside r (drop n s) o e in
+    rw e (λ same room.
+    let pad = padding-front r s s′ (n + o .at) same (omega (arith, w)) (omega (arith, w, length-drop n s, padding-within r s)) in
+    let read = object-front r (drop n s) (drop n s′) o e (front-rest s s′ (n + o .at) same n (o .at) refl)
+    (simp length-drop (omega (arith, room))) in
+    rw (pad, read)))
+    (λ k e. rw e tt)
+
+pub next-front : (r : Reading) (s s′ : List ℕ) (i : Item) → nextOf r s ≡ ok i → take (i .at) s′ ≡ take (i .at) s
+    → sizeOf i ≤ length s′ → nextOf r s′ ≡ ok i
+next-front r s s′ i e =
+    all-is (λ i. take (i .at) s′ ≡ take (i .at) s → sizeOf i ≤ length s′ → nextOf r s′ ≡ ok i) (nextOf r s) i (next-all r s s′) e

@@ -13,12 +13,11 @@ use Rattle.basis.specs.Reply.{Told, ok, refused}
 use Rattle.basis.specs.Every.{Every}
 use Rattle.basis.proofs.Reply.{All, by-reply, all-is, all-weaken, refused-not-ok}
 use Rattle.basis.proofs.Over.{drop-take}
-use Rattle.tlv.specs.Tag.{tagOf}
-use Rattle.tlv.specs.Object.{objectOf, Item, Stop, objectAt}
+use Rattle.tlv.specs.Object.{Item, Stop, objectAt}
 use Rattle.tlv.specs.Walk.{walk}
 use Rattle.tlv.specs.Lookup.{Span, part, wholeRecord, valueOf, firstValue, seek, Found, Halt, foundBy, spanOf, follow, lookup}
 use Rattle.tlv.specs.declared.Reading.{Reading}
-use Rattle.tlv.proofs.Walk.{lookup-inside}
+use Rattle.tlv.proofs.Walk.{next-nothing, lookup-inside}
 use Rattle.tlv_laws.specs.Walked.{ReadOn, ReadTo}
 use Rattle.tlv_laws.specs.Place.{upTo, stopOf, StopsAt, FoundThere}
 use Rattle.tlv_laws.proofs.TruthValues.{by-test}
@@ -146,7 +145,7 @@ stop-place r s path h e =
       items = w .items;
       walked = on;
       others = rw next (n .1);
-      read = rw (min-eq-left {n = h .place} {m = length (upTo q s)} before, stop);
+      read = rw (min-eq-left {n = h .place} {m = length (upTo q s)} before, stop, add-zero);
       place = elim stops [
         | inl f ↦ inl (f .0, omega (arith, f .1, size))
         | inr f ↦ inr (f .0, f .1, omega (arith, f .2, size))
@@ -222,5 +221,4 @@ value-place r s path t q e =
 -- past the end of a record there is no object: 11, at the end (rule 15.2)
 pub object-past : (r : Reading) (s : List ℕ) (at : ℕ) → length s ≤ at
     → objectAt r s at ≡ refused (record { number = 11; place = length s })
-unfolding objectOf tagOf
-object-past r s at h = rw (drop-of-length-le s h, min-eq-right h)
+object-past r s at h = rw (drop-of-length-le s h, min-eq-right h, next-nothing r, add-zero)

@@ -1,33 +1,36 @@
 -- What is written is read back: a tag that a reading accepts, the shortest length, and the value (rule 7.4).
 use Prim.Native.Nat.{ℕ, zero, suc, _+_, _-_, _*_, _/_, _%_, _≤_, _<_}
-use mathlib.Core.Path.{_≡_, refl, sym, _∙_}
+use mathlib.Core.Path.{_≡_, refl, sym, ap, _∙_}
 use mathlib.Core.Bool.{true}
 use mathlib.Core.List.{List, [], _∷_, _++_, append-assoc}
-use native.Mathlib.Nat.{zero-add}
+use native.Mathlib.Nat.{zero-add, add-zero}
 use native.Mathlib.Omega.{arith}
 use lib.Dec.{ltb, leb}
 use lib.ListN.{length, getD, take, drop, length-append}
 use lib.Seq.{take-suc, take-at, take-length, take-append-seam, length-take-le, drop-at, drop-append-seam, drop-append-add}
 use borrow.Author.Tests.{ltb-false, le-ltb, le-leb}
-use Rattle.basis.specs.Reply.{ok}
+use Rattle.basis.specs.Reply.{Told, ok, refused}
 use Rattle.basis.specs.Over.{overAt}
 use Rattle.basis.specs.Number.{be}
 use Rattle.basis.proofs.Reply.{All, all-is, all-cond}
 use Rattle.basis.proofs.Truth.{on-cond}
-use Rattle.tlv.specs.Tag.{Tag, inRange, tagSize, crateTagSize, standardTagSize, longTag, tagOf}
+use Rattle.tlv.specs.Padding.{zeros, padding}
+use Rattle.tlv.specs.Tag.{Tag, inRange, tagSize, crateTagSize, standardTagSize, longTag, tagOf, tagAlone}
 use Rattle.tlv.specs.Len.{lenTo82, lenOf}
-use Rattle.tlv.specs.Object.{sizeOf, objectOf}
-use Rattle.tlv.specs.Lookup.{seek, follow, lookup, valueIn}
+use Rattle.tlv.specs.Object.{objectOf, placed, nextOf, sizeOf, moved}
+use Rattle.tlv.specs.Lookup.{part, seek, Found, Halt, follow, lookup, valueIn}
 use Rattle.tlv.specs.declared.Reading.{Reading}
 use Rattle.tlv.specs.declared.Reading.the-variants.{Crate, Standard}
-use Rattle.tlv.proofs.Tags.{by-tag}
+use Rattle.tlv.proofs.Tags.{by-tag, alone-read}
 use Rattle.tlv.proofs.Lengths.{len-in-both-readings}
-use Rattle.tlv.proofs.Within.{tag-inside}
+use Rattle.tlv.proofs.Within.{tag-inside, next-after}
 use Rattle.tlv.proofs.Walk.{seek-here, seek-next}
 use Rattle.tlv_write.specs.Written.{tagBytes, lenBytes, objectBytes, putOf, asReply, put-data-object-is}
 use Rattle.tlv_write.specs.declared.PutDataObject.{PutDataObject}
 use Rattle.tlv_laws.specs.ReadBack.{written, objectFor, ReadsBack}
-use Rattle.tlv_laws.proofs.FrontOfBytes.{tag-front}
+use Rattle.tlv_laws.specs.Padding.{zeroBytes, movedLookup}
+use Rattle.tlv_laws.proofs.FrontOfBytes.{tag-front, padding-front}
+use Rattle.tlv_laws.proofs.ZeroBytes.{zero-bytes, zeros-next, zeros-lookup}
 
 -- a number in three bytes
 three-bytes : (n a b c : ℕ) → n ≡ (a * 256 + b) * 256 + c → a < 256 → b < 256 → c < 256 → be 3 n ≡ a ∷ b ∷ c ∷ []
@@ -108,25 +111,40 @@ object-back r b v u t size e h =
       room,
     )
 
--- a tag that was read in bytes, a value of at most 65,535 bytes, and any bytes after it (rule 7.4)
-module _ (r : Reading) (s : List ℕ) (bytes : (i : ℕ) → getD s i 0 < 256) (t : Tag) (e : tagOf r s ≡ ok t) (v u : List ℕ)
+next-back : (r : Reading) (b v u : List ℕ) (t : Tag) → length b ≡ t .size
+    → tagOf r (b ++ (lenBytes (length v) ++ (v ++ u))) ≡ ok t → padding r (b ++ (lenBytes (length v) ++ (v ++ u))) ≡ 0
+    → length v ≤ 65535
+    → nextOf r (((b ++ lenBytes (length v)) ++ v) ++ u)
+    ≡ ok (record { place = 0; tag = t .number; at = length (b ++ lenBytes (length v)); len = length v })
+next-back r b v u t size e none h =
+    let l = lenBytes (length v) in
+    let w = ((b ++ l) ++ v) ++ u in
+    let none-there : 0 ≡ padding r w = sym (rw (append-assoc (b ++ l) v u, append-assoc b l (v ++ u)) none) in
+    next-after r w 0 none-there ∙ ap (placed 0) (object-back r b v u t size e h) ∙ rw zero-add
+
+-- a tag that was read alone in bytes, a value of at most 65,535 bytes, and any bytes after it (rule 7.4)
+module _ (r : Reading) (s : List ℕ) (bytes : (i : ℕ) → getD s i 0 < 256) (t : Tag) (e : tagAlone r s ≡ ok t) (v u : List ℕ)
     (h : length v ≤ 65535) where
   pub written-read : ReadsBack r (t .number) v u
   unfolding objectBytes
   written-read =
       let b = take (t .size) s in
+      let accepted = alone-read r s t e .1 in
       let same : tagBytes (be 3 (t .number)) ≡ b =
-      all-is (λ t. tagBytes (be 3 (t .number)) ≡ take (t .size) s) (tagOf r s) t (tag-bytes r s bytes) e in
+      all-is (λ t. tagBytes (be 3 (t .number)) ≡ take (t .size) s) (tagOf r s) t (tag-bytes r s bytes) accepted in
       let p = tagBytes (be 3 (t .number)) ++ lenBytes (length v) in
       let at : length (p ++ v) - length v ≡ length p = omega (arith, length-append p v) in
-      let within = tag-inside r s t e in
+      let within = tag-inside r s t accepted in
       let size : length b ≡ t .size = length-take-le (t .size) s (within .1) in
       let rest = lenBytes (length v) ++ (v ++ u) in
       let read : tagOf r (b ++ rest) ≡ ok t =
       all-is (λ t. take (t .size) (b ++ rest) ≡ take (t .size) s → tagOf r (b ++ rest) ≡ ok t) (tagOf r s) t
-      (tag-front s (b ++ rest) r) e (take-at b rest (t .size) size) in
+      (tag-front s (b ++ rest) r) accepted (take-at b rest (t .size) size) in
+      let none = alone-read r s t e .0 in
+      let unpadded : padding r (b ++ rest) ≡ 0 =
+      padding-front r s (b ++ rest) (t .size) (take-at b rest (t .size) size) (omega (arith, none, within)) (within .1) ∙ none in
       record {
-        object = rw (at, same) (object-back r b v u t size read h);
+        object = rw (at, same) (next-back r b v u t size read unpadded h);
         value = rw (at, append-assoc p v u, drop-append-seam p (v ++ u), take-append-seam v u);
         rest = rw (at, append-assoc p v u, drop-append-add p (v ++ u) (length v), drop-append-seam v u);
       }
@@ -151,14 +169,43 @@ module _ (r : Reading) (s : List ℕ) (bytes : (i : ℕ) → getD s i 0 < 256) (
       seek-next r n a (w ++ u) o (written-read .object) other ∙ rw (written-read .rest, size)
 
 -- the same for the standard reading and every tag that it accepts
-pub standard-written-read : (s : List ℕ) → ((i : ℕ) → getD s i 0 < 256) → (t : Tag) → tagOf Standard s ≡ ok t → (v u : List ℕ)
+pub standard-written-read : (s : List ℕ) → ((i : ℕ) → getD s i 0 < 256) → (t : Tag) → tagAlone Standard s ≡ ok t → (v u : List ℕ)
     → length v ≤ 65535 → ReadsBack Standard (t .number) v u
 standard-written-read = written-read Standard
 
+-- with k zero bytes in front it is read back k bytes further on, and a lookup of the tag finds the value (rule 16.8)
+after-zeros : (k n : ℕ) (l : List ℕ) → drop (k + n) (zeroBytes k ++ l) ≡ drop n l
+after-zeros k n l = rw (zero-bytes k) at (drop-append-add (zeroBytes k) l n)
+
+value-after-zeros : (k : ℕ) (l : List ℕ) (x : Told Halt Found) → valueIn (zeroBytes k ++ l) (movedLookup k x) ≡ valueIn l x
+value-after-zeros k l (ok p) = ap (take (p .len)) (after-zeros k (p .at) l)
+value-after-zeros k l (refused h) = refl
+
+module _ (s : List ℕ) (bytes : (i : ℕ) → getD s i 0 < 256) (t : Tag) (e : tagAlone Standard s ≡ ok t) (v u : List ℕ)
+    (h : length v ≤ 65535) (k : ℕ) where
+  pub written-padded : let o = objectFor (t .number) v in
+      let w = zeroBytes k ++ (written (t .number) v ++ u) in
+      (nextOf Standard w ≡ ok (record { place = k; tag = t .number; at = k + o .at; len = length v }))
+      × (part w (record { at = k + o .at; len = length v }) ≡ v) × (drop (k + sizeOf o) w ≡ u)
+  written-padded =
+      let o = objectFor (t .number) v in
+      let w = written (t .number) v ++ u in
+      let back = standard-written-read s bytes t e v u h in (
+        zeros-next k w ∙ ap (moved k) (back .object) ∙ rw add-zero,
+        ap (take (length v)) (after-zeros k (o .at) w) ∙ back .value,
+        after-zeros k (sizeOf o) w ∙ back .rest,
+      )
+
+  pub padded-found : let w = zeroBytes k ++ (written (t .number) v ++ u) in valueIn w (lookup Standard w (t .number ∷ [])) ≡ v
+  padded-found =
+      let w = written (t .number) v ++ u in
+      rw (zeros-lookup k w (t .number) []) (value-after-zeros k w (lookup Standard w (t .number ∷ []))
+      ∙ written-found Standard s bytes t e v u h)
+
 -- the tag 5F24, which the debug checks of the Rust's writer reject, is written if there is room, as these two bytes;
 -- both readings read it back (rule 11.13)
-tag-5f24 : (r : Reading) → tagOf r (0x5F ∷ 0x24 ∷ []) ≡ ok (record { number = 0x5F24; size = 2 })
-unfolding tagOf longTag tagSize crateTagSize standardTagSize inRange
+tag-5f24 : (r : Reading) → tagAlone r (0x5F ∷ 0x24 ∷ []) ≡ ok (record { number = 0x5F24; size = 2 })
+unfolding tagAlone padding zeros tagOf longTag tagSize crateTagSize standardTagSize inRange
 tag-5f24 Crate = refl
 tag-5f24 Standard = refl
 
@@ -196,7 +243,7 @@ fitted at m t v =
     all-cond P (ltb m (at + length (objectBytes t v))) _ _ (λ _. tt) (λ b. (ltb-false 65535 (length v) a, ltb-false m _ b, refl)))
 
 -- the object in the buffer that the writer leaves is read back from the place where it was written
-pub put-read : (r : Reading) (s : List ℕ) → ((i : ℕ) → getD s i 0 < 256) → (t : Tag) → tagOf r s ≡ ok t
+pub put-read : (r : Reading) (s : List ℕ) → ((i : ℕ) → getD s i 0 < 256) → (t : Tag) → tagAlone r s ≡ ok t
     → (v buffer after : List ℕ) (at n : ℕ) (x : PutDataObject) → put-data-object-is (be 3 (t .number)) v buffer at x after → asReply x ≡ ok n
     → (drop at after ≡ written (t .number) v ++ drop (at + n) buffer) × ReadsBack r (t .number) v (drop (at + n) buffer)
 unfolding overAt

@@ -1,32 +1,25 @@
--- On which tags exactly the crate and the standard reading differ, and that objects and lookups differ nowhere else
--- (rule 6.5).
-use Prim.Native.Nat.{ℕ, _+_, _%_, _≤_, _<_}
-use mathlib.Core.Path.{_≡_, refl, sym, ap, _∙_}
+-- On which tags exactly the crate and the standard reading differ, in front of an object and read alone (rules 6.5 and
+-- 16.7).
+use Prim.Native.Nat.{ℕ, _%_, _≤_, _<_}
+use mathlib.Core.Path.{_≡_, refl, sym, _∙_}
 use mathlib.Core.Bool.{Bool, true, false, cond, true≢false, false≢true}
-use mathlib.Core.List.{List, [], _∷_, _++_, append-assoc}
+use mathlib.Core.List.{List}
 use native.Mathlib.Omega.{arith}
 use native.Mathlib.Decide.{decLt, decLe}
 use lib.Dec.{ltb, leb, eqb}
-use lib.ListN.{length, getD, take, drop, take-append-drop}
-use lib.Seq.{drop-drop}
-use borrow.Author.Tests.{ltb-false, leb-true, eqb-true, eqb-false, le-leb, lt-leb, eq-eqb, ne-eqb}
+use lib.ListN.{length, getD}
+use borrow.Author.Tests.{ltb-false, leb-true, leb-false, eqb-true, eqb-false, le-leb, lt-leb, eq-eqb, ne-eqb}
 use Rattle.basis.specs.Differ.{Differ}
-use Rattle.basis.specs.Reply.{ok, refused}
-use Rattle.basis.proofs.Reply.{All, by-reply, all-is}
+use Rattle.basis.proofs.Reply.{All, all-is, refused-not-ok}
 use Rattle.basis.proofs.Truth.{both-true, on-cond}
-use Rattle.tlv.specs.Tag.{Tag, inRange, tagSize, crateTagSize, standardTagSize, thirdByte, crateThirdByte, threeBytes, longTag, tagOf}
-use Rattle.tlv.specs.Object.{sizeOf, objectOf}
-use Rattle.tlv.specs.Walk.{walk}
-use Rattle.tlv.specs.Lookup.{Span, part, wholeRecord, seek, Found, foundBy, spanOf, follow, lookup}
+use Rattle.tlv.specs.Padding.{zeros, padding}
+use Rattle.tlv.specs.Tag.{Tag, inRange, tagSize, crateTagSize, standardTagSize, thirdByte, crateThirdByte, threeBytes, longTag, tagOf, tagAlone}
 use Rattle.tlv.proofs.InRange.{inside, below, above}
-use Rattle.tlv.proofs.Tags.{tag-two, tag-three, by-tag}
-use Rattle.tlv.proofs.Walk.{walk-refused, walk-met, by-objects, seek-refused, seek-is}
+use Rattle.tlv.proofs.Zeros.{first-zero, crate-padding, standard-padding}
+use Rattle.tlv.proofs.Tags.{tag-one, tag-two, tag-three, by-tag, alone-unpadded, alone-padded}
 use Rattle.tlv.specs.declared.Reading.the-variants.{Crate, Standard}
-use Rattle.tlv_laws.specs.Readings.{isOrFF, secondDiffers, thirdDiffers, tagDiffers, meetsOf, meetsAt, meetsFrom, meets}
-use Rattle.tlv_laws.specs.Plain.{plain}
-use Rattle.tlv_laws.specs.Value.{ofValue}
+use Rattle.tlv_laws.specs.Readings.{isOrFF, secondDiffers, thirdDiffers, tagDiffers, tagAloneDiffers}
 use Rattle.tlv_laws.proofs.TruthValues.{by-test, same-cond, neither, not-true-false}
-use Rattle.tlv_laws.proofs.Boundary.{walked-none, walked-append, walked-next}
 
 -- a byte b is k or at least FF: what the test says
 module _ (k b : ℕ) where
@@ -200,83 +193,26 @@ differing-tags s e q =
 pub tags-differ : (s : List ℕ) → Differ (tagDiffers s ≡ true) (tagOf Crate s) (tagOf Standard s)
 tags-differ s = record { differ = differing-tags s; equal = λ h. tags-alike s (not-true-false (tagDiffers s) h) }
 
-pub objects-alike : (s : List ℕ) → tagDiffers s ≡ false → objectOf Crate s ≡ objectOf Standard s
-unfolding objectOf
-objects-alike s e = rw (tags-alike s e)
+-- a tag read alone: also if the first byte is 00 (rule 16.7)
+pub no-padding : (s : List ℕ) → leb 1 (zeros s) ≡ false → padding Standard s ≡ 0
+no-padding s z = standard-padding s ∙ omega (arith, leb-false 1 (zeros s) z)
 
--- whether such a tag is met at one level, walked from place a of the bytes l on
-module _ (t : ℕ) (l : List ℕ) where
-  abbrev Met : ℕ → List ℕ → Bool
-  Met a s = meetsOf l t (walk Crate a s .items) (walk Crate a s .stop)
+alone-apart : (s : List ℕ) → 1 ≤ zeros s → tagOf Crate s ≡ tagAlone Standard s → ⊥
+alone-apart s h e =
+    let first = first-zero s h in
+    let read = tag-one Crate s (first .1) (λ z. omega (arith, z, first .0)) in
+    let none = alone-padded Standard s (omega (arith, standard-padding s, h)) in
+    refused-not-ok 12 _ (sym none ∙ sym e ∙ read)
 
-  -- if none of these tags is met, the lookups of both readings agree
-  abbrev Alike : ℕ → List ℕ → Type 0
-  Alike a s = (b : ℕ) → drop a l ≡ s → Met a s ≡ false → seek Crate t b s ≡ seek Standard t b s
-
-  level-alike : (a : ℕ) (s : List ℕ) → Alike a s
-  unfolding meetsOf
-  level-alike =
-      by-objects Crate Alike
-      (λ a s k e b d m.
-      let none : tagDiffers (drop a l) ≡ false = rw (walk-refused Crate a s k e) at m in
-      let same = objects-alike s (rw d at none) in
-      seek-refused Crate t b s k e ∙ sym (seek-refused Standard t b s k (sym same ∙ e)))
-      (λ a s o e w deeper b d m.
-      let n = neither (tagDiffers (drop a l)) _ (rw (walk-met Crate a s o e) at m) in
-      let same = objects-alike s (rw d at (n .0)) in
-      rw (seek-is Crate t b s o e, seek-is Standard t b s o (sym same ∙ e))
-      (same-cond (eqb (o .tag) t) _ _ _ _ (λ _. refl) (λ h.
-      deeper (b + sizeOf o) (sym (drop-drop (sizeOf o) a l) ∙ ap (drop (sizeOf o)) d) (rw h at (n .1)))))
-
-  -- none is met if none stands after whole objects without the tag (bytes in which the tag is refused with 11)
-  abbrev None : ℕ → List ℕ → Type 0
-  None a s =
-      drop a l ≡ s → ((x y : List ℕ) → s ≡ x ++ y → plain (lookup Crate x (t ∷ [])) ≡ refused 11 → tagDiffers y ≡ false) → Met a s ≡ false
-
-level-none : (t : ℕ) (l : List ℕ) (a : ℕ) (s : List ℕ) → None t l a s
-unfolding meetsOf
-level-none t l =
-    by-objects Crate (None t l)
-    (λ a s k e d h.
-    let none : tagDiffers (drop a l) ≡ false = rw d (h [] s refl (walked-none Crate t)) in
-    rw (walk-refused Crate a s k e) none)
-    (λ a s o e w deeper d h.
-    let k = sizeOf o in
-    rw (walk-met Crate a s o e, d, h [] s refl (walked-none Crate t))
-    (by-test (eqb (o .tag) t) (λ g. rw g) (λ g.
-    rw g (deeper (sym (drop-drop k a l) ∙ ap (drop k) d) (λ x y q z.
-    h (take k s ++ x) y (sym (take-append-drop k s) ∙ rw (q, append-assoc))
-    (walked-append Crate t (take k s) x (walked-next Crate t [] s o (walked-none Crate t) e (eqb-false (o .tag) t g)) z))))))
-
-follow-alike : (s : List ℕ) (m : ℕ) (p : Span) (path : List ℕ) → meetsFrom s p path ≡ false
-    → follow Crate s m p path ≡ follow Standard s m p path
-unfolding meetsFrom meetsAt follow
-follow-alike s m p [] e = refl
-follow-alike s m p (t ∷ path) e =
-    let x = seek Crate t (p .at) (part s p) in
-    let n = neither (meetsAt t (part s p)) (ofValue x false (λ q. meetsFrom s q path)) e in
-    rw (← level-alike t (part s p) 0 (part s p) (p .at) refl (n .0))
-    (by-reply x (λ q h. rw h (follow-alike s (m + 1) q path (rw h at (n .1)))) (λ k h. rw h))
-
-pub lookups-alike : (s path : List ℕ) → meets s path ≡ false → lookup Crate s path ≡ lookup Standard s path
-lookups-alike s path = follow-alike s 0 (wholeRecord s) path
-
-path-none : (s : List ℕ) (n : ℕ) (p : Span) (path : List ℕ)
-    → ((front rest : List ℕ) (t : ℕ) (q : Found) (x y : List ℕ) → path ≡ front ++ (t ∷ rest) → follow Crate s n p front ≡ ok q
-    → part s (spanOf q) ≡ x ++ y → plain (lookup Crate x (t ∷ [])) ≡ refused 11 → tagDiffers y ≡ false)
-    → meetsFrom s p path ≡ false
-unfolding meetsFrom meetsAt follow
-path-none s n p [] h = refl
-path-none s n p (t ∷ path) h =
-    rw (level-none t (part s p) 0 (part s p) refl (λ x y. h [] path t (foundBy n p) x y refl refl))
-    (by-reply (seek Crate t (p .at) (part s p)) (λ q e.
-    rw e (path-none s (n + 1) q path (λ front rest u m x y parts entered.
-    h (t ∷ front) rest u m x y (ap (λ (l : List ℕ). t ∷ l) parts) (rw e entered))))
-    (λ k e. rw e))
-
--- so none is met if none stands at a place to which the lookup comes, at any level of the path
-pub meets-none : (s path : List ℕ)
-    → ((front rest : List ℕ) (t : ℕ) (p : Found) (x y : List ℕ) → path ≡ front ++ (t ∷ rest) → lookup Crate s front ≡ ok p
-    → part s (spanOf p) ≡ x ++ y → plain (lookup Crate x (t ∷ [])) ≡ refused 11 → tagDiffers y ≡ false)
-    → meets s path ≡ false
-meets-none s path = path-none s 0 (wholeRecord s) path
+pub tags-alone-differ : (s : List ℕ) → Differ (tagAloneDiffers s ≡ true) (tagAlone Crate s) (tagAlone Standard s)
+unfolding tagAloneDiffers
+tags-alone-differ s = record {
+  differ = λ d e.
+      let crate = alone-unpadded Crate s (crate-padding s) in
+      by-test (leb 1 (zeros s))
+      (λ z. alone-apart s (leb-true 1 (zeros s) z) (sym crate ∙ e))
+      (λ z. differing-tags s (rw z at d) (sym crate ∙ e ∙ alone-unpadded Standard s (no-padding s z)));
+  equal = λ h.
+      let n = neither (leb 1 (zeros s)) (tagDiffers s) (not-true-false _ h) in
+      alone-unpadded Crate s (crate-padding s) ∙ tags-alike s (n .1) ∙ sym (alone-unpadded Standard s (no-padding s (n .0)));
+}

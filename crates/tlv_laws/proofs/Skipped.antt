@@ -13,7 +13,8 @@ use borrow.Author.Tests.{lt-ltb, ne-eqb}
 use Rattle.basis.specs.Reply.{ok, refused}
 use Rattle.basis.proofs.Reply.{All, by-reply, all-is, all-cond, all-weaken, refused-not-ok, all-both}
 use Rattle.basis.proofs.Truth.{on-cond}
-use Rattle.tlv.specs.Object.{Object, sizeOf, objectOf, Stop}
+use Rattle.tlv.specs.Padding.{padding}
+use Rattle.tlv.specs.Object.{Item, Stop, nextOf, sizeOf}
 use Rattle.tlv.specs.Lookup.{Span, part, wholeRecord, seek, Found, Halt, foundBy, spanOf, follow, lookup}
 use Rattle.tlv.specs.declared.Reading.{Reading}
 use Rattle.tlv.proofs.Walk.{walk-refused, walk-met, by-objects, seek-refused, seek-is, Lies, FoundIn, seek-inside}
@@ -22,23 +23,30 @@ use Rattle.basis.proofs.Every.{every-append, every-weaken}
 use Rattle.tlv_laws.specs.Skipped.{passedOf, passedAt, passedFrom, passed, lastFrom, lastEntered, endOf}
 use Rattle.tlv_laws.specs.Skipped.{covers, coveredBy, seenTo, seen}
 use Rattle.tlv_laws.proofs.TruthValues.{by-test, same-cond}
-use Rattle.tlv_laws.proofs.FrontOfBytes.{object-front}
+use Rattle.tlv_laws.proofs.FrontOfBytes.{next-front}
+use Rattle.tlv_laws.proofs.Padded.{walk-padded}
 use Rattle.tlv_laws.proofs.AfterMatch.{follow-inside}
 use Rattle.tlv_laws.proofs.Covered.{Before, covers-ahead, covers-after, uncovered, uncovered-append}
 use Rattle.tlv_laws.proofs.Covered.{covered-left, covered-right, covered-before}
 
-passed-no : (r : Reading) (t a : ℕ) (s : List ℕ) (k : ℕ) → objectOf r s ≡ refused k → passedAt r t a s ≡ []
+passed-no : (r : Reading) (t a : ℕ) (s : List ℕ) (k : Stop) → nextOf r s ≡ refused k → passedAt r t a s ≡ []
 unfolding passedAt passedOf
 passed-no r t a s k e = rw (walk-refused r a s k e)
 
-passed-is : (r : Reading) (t a : ℕ) (s : List ℕ) (o : Object) → objectOf r s ≡ ok o
+passed-is : (r : Reading) (t a : ℕ) (s : List ℕ) (o : Item) → nextOf r s ≡ ok o
     → passedAt r t a s
     ≡ cond (eqb (o .tag) t) [] (record { at = a + o .at; len = o .len } ∷ passedAt r t (a + sizeOf o) (drop (sizeOf o) s))
 unfolding passedAt passedOf
 passed-is r t a s o e = rw (walk-met r a s o e)
 
+-- padding in front passes over nothing
+pub passed-padded : (r : Reading) (x : List ℕ) → padding r x ≡ length x → (t a : ℕ) (y : List ℕ)
+    → passedAt r t a (x ++ y) ≡ passedAt r t (a + length x) y
+unfolding passedAt
+passed-padded r x only t a y = rw (walk-padded r x only a y)
+
 -- the value of an object with another tag is passed over, and then what is passed over after it
-pub passed-next : (r : Reading) (t a : ℕ) (s : List ℕ) (o : Object) → objectOf r s ≡ ok o → (o .tag ≡ t → ⊥)
+pub passed-next : (r : Reading) (t a : ℕ) (s : List ℕ) (o : Item) → nextOf r s ≡ ok o → (o .tag ≡ t → ⊥)
     → passedAt r t a s ≡ record { at = a + o .at; len = o .len } ∷ passedAt r t (a + (o .at + o .len)) (drop (o .at + o .len) s)
 passed-next r t a s o e h = rw (passed-is r t a s o e, ne-eqb (o .tag) t h)
 
@@ -86,11 +94,11 @@ module _ (r : Reading) (t : ℕ) where
   Looked a s i = (coveredBy (passedAt r t a s) i ≡ false) × All (λ p. i < p .at) (seek r t a s)
 
   -- it looks at bytes that are no object, at the tag and the length of an object, and further on after an object
-  looked-no : (a : ℕ) (s : List ℕ) (k i : ℕ) → objectOf r s ≡ refused k → Looked a s i
+  looked-no : (a : ℕ) (s : List ℕ) (k : Stop) (i : ℕ) → nextOf r s ≡ refused k → Looked a s i
   unfolding coveredBy
   looked-no a s k i e = rw (passed-no r t a s k e, seek-refused r t a s k e) (refl, tt)
 
-  module _ (a : ℕ) (s : List ℕ) (o : Object) (i : ℕ) (e : objectOf r s ≡ ok o) where
+  module _ (a : ℕ) (s : List ℕ) (o : Item) (i : ℕ) (e : nextOf r s ≡ ok o) where
     looked-head : i < a + o .at → Looked a s i
     unfolding coveredBy
     looked-head h =
@@ -123,7 +131,7 @@ module _ (r : Reading) (t : ℕ) where
       let k = sizeOf o in
       let head : take (o .at) s′ ≡ take (o .at) s = take-same (o .at) s′ s (omega arith) (omega arith) (λ i h.
       same i (omega arith) (looked-head a s o (a + i) e (omega arith))) in
-      rw (seek-is r t a s′ o (object-front r s s′ o e head (omega arith)), seek-is r t a s o e)
+      rw (seek-is r t a s′ o (next-front r s s′ o e head (omega arith)), seek-is r t a s o e)
       (same-cond (eqb (o .tag) t) _ _ _ _ (λ _. refl) (λ g.
       deeper (drop k s′) (simp length-drop (omega arith)) (λ i h l.
       let below : k + i < length s = omega (arith, length-drop k s) in

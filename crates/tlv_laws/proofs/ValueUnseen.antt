@@ -13,18 +13,18 @@ use Rattle.basis.specs.Reply.{ok, refused}
 use Rattle.basis.specs.Over.{overAt}
 use Rattle.basis.proofs.Reply.{by-reply, refused-not-ok}
 use Rattle.basis.proofs.Over.{length-over-at}
-use Rattle.tlv.specs.Object.{Object, sizeOf, objectOf}
+use Rattle.tlv.specs.Object.{Item, nextOf, sizeOf}
 use Rattle.tlv.specs.Lookup.{part, wholeRecord, seek, Found, Halt, foundBy, spanOf, follow, lookup, valueIn}
 use Rattle.tlv.specs.declared.Reading.{Reading}
-use Rattle.tlv.proofs.Within.{object-inside}
+use Rattle.tlv.proofs.Within.{next-inside}
 use Rattle.tlv.proofs.Walk.{lookup-inside}
 use Rattle.tlv_laws.specs.Plain.{numberOnly, plain}
 use Rattle.tlv_laws.specs.Skipped.{passedAt, passed, lastEntered, coveredBy, aside, refill}
-use Rattle.tlv_laws.proofs.FrontOfBytes.{object-front}
+use Rattle.tlv_laws.proofs.FrontOfBytes.{next-front}
 use Rattle.tlv_laws.proofs.AfterMatch.{follow-append}
 use Rattle.tlv_laws.proofs.Boundary.{by-passed-objects, walked-at}
 use Rattle.tlv_laws.proofs.Covered.{covered-first, covered-later}
-use Rattle.tlv_laws.proofs.Skipped.{passed-next, passed-level, passed-entered, last-found, last-refused, found-outside}
+use Rattle.tlv_laws.proofs.Skipped.{passed-padded, passed-next, passed-level, passed-entered, last-found, last-refused, found-outside}
 use Rattle.tlv_laws.proofs.Aside.{passed-aside, after-aside, aside-unseen, aside-value, refilled-byte}
 
 -- what is passed over after whole objects with other tags is passed over by the search that begins with these objects
@@ -32,11 +32,11 @@ passed-on : (r : Reading) (t i : ℕ) (y : List ℕ) (a : ℕ) (x : List ℕ) �
     → coveredBy (passedAt r t (a + length x) y) i ≡ true → coveredBy (passedAt r t a (x ++ y)) i ≡ true
 passed-on r t i y =
     by-passed-objects r t (λ a x. coveredBy (passedAt r t (a + length x) y) i ≡ true → coveredBy (passedAt r t a (x ++ y)) i ≡ true)
-    (λ a h. rw add-zero at h) (λ a x o e other further h.
-    let w = object-inside r x o e in
+    (λ a x only h. rw (passed-padded r x only t a y) h) (λ a x o e other further h.
+    let w = next-inside r x o e in
     let k = sizeOf o in
     let place : a + k + length (drop k x) ≡ a + length x = simp length-drop (omega arith) in
-    let read = object-front r x (x ++ y) o e (take-append-le (o .at) x y (omega arith)) (simp length-append (omega arith)) in
+    let read = next-front r x (x ++ y) o e (take-append-le (o .at) x y (omega arith)) (simp length-append (omega arith)) in
     rw (passed-next r t a (x ++ y) o read other, drop-append-le k x y (omega arith))
     (covered-later _ _ i (further (rw place h))))
 
@@ -65,9 +65,9 @@ outside a v s h i off =
 -- A value that a path passes over: the tags of the path before t lead to the part p. The first bytes x of that part are
 -- whole objects, none of them with tag t, since t is refused in them with 11. The object o after them has another tag,
 -- and its value stands at place a of the record.
-module _ (r : Reading) (s path front rest : List ℕ) (t : ℕ) (p : Found) (x y : List ℕ) (o : Object) (a : ℕ)
+module _ (r : Reading) (s path front rest : List ℕ) (t : ℕ) (p : Found) (x y : List ℕ) (o : Item) (a : ℕ)
     (parts : path ≡ front ++ (t ∷ rest)) (entered : lookup r s front ≡ ok p) (level : part s (spanOf p) ≡ x ++ y)
-    (walked : plain (lookup r x (t ∷ [])) ≡ refused 11) (object : objectOf r y ≡ ok o) (other : o .tag ≡ t → ⊥)
+    (walked : plain (lookup r x (t ∷ [])) ≡ refused 11) (object : nextOf r y ≡ ok o) (other : o .tag ≡ t → ⊥)
     (place : a ≡ p .at + length x + o .at) where
   -- each place of that value is passed over
   pub value-passed : (i : ℕ) → a ≤ i → i < a + o .len → coveredBy (passed r s path) i ≡ true
@@ -80,7 +80,7 @@ module _ (r : Reading) (s path front rest : List ℕ) (t : ℕ) (p : Found) (x y
   value-inside : a + o .len ≤ length s
   value-inside =
       let l = lookup-inside r s front p entered in
-      let w = object-inside r y o object in
+      let w = next-inside r y o object in
       omega (arith, ap length level, length-append x y, length-take (p .len) (drop (p .at) s))
 
   -- `refill` has the byte of f there

@@ -3,16 +3,18 @@ use Prim.Native.Nat.{ℕ, _+_, _-_, _≤_, _<_}
 use mathlib.Core.Path.{_≡_, refl, sym, ap, _∙_}
 use mathlib.Core.Logic.{_⊎_, inl, inr}
 use mathlib.Core.List.{List, [], _∷_}
-use native.Mathlib.Nat.{add-assoc, add-sub-cancel-left}
+use native.Mathlib.Nat.{add-assoc}
 use native.Mathlib.Omega.{arith}
 use lib.ListN.{length, drop, length-drop}
 use lib.Seq.{drop-drop}
 use Rattle.basis.specs.Reply.{refused}
-use Rattle.tlv.specs.Object.{Object, sizeOf, objectOf, Item, Stop, itemAt}
+use Rattle.basis.proofs.Reply.{by-reply, refused-not-ok}
+use Rattle.tlv.specs.Object.{Item, Stop, nextOf, sizeOf, movedStop}
 use Rattle.tlv.specs.Walk.{Walk, withItem, walk}
 use Rattle.tlv.specs.declared.Reading.{Reading}
-use Rattle.tlv.proofs.Walk.{walk-refused, walk-met, by-objects}
+use Rattle.tlv.proofs.Walk.{walk-refused, walk-met, walk-stopped, walk-item, item-inside, by-objects}
 use Rattle.tlv_laws.specs.Walked.{ReadOn}
+use Rattle.tlv_laws.proofs.Padded.{stop-there}
 use Rattle.tlv_laws.proofs.Boundary.{refused-where}
 
 module _ (r : Reading) (l : List ℕ) where
@@ -20,30 +22,31 @@ module _ (r : Reading) (l : List ℕ) where
   pub read-on : (a : ℕ) (s : List ℕ) → drop a l ≡ s → ReadOn r l a (walk r a s .items) (walk r a s .stop)
   read-on =
       by-objects r (λ a s. drop a l ≡ s → ReadOn r l a (walk r a s .items) (walk r a s .stop))
-      (λ a s k e d. rw (walk-refused r a s k e) (omega arith, rw d e)) (λ a s o e w deeper d.
+      (λ a s k e d. rw (walk-refused r a s k e, d, e)) (λ a s o e w deeper d.
       let afterLast = deeper (sym (drop-drop (sizeOf o) a l) ∙ ap (drop (sizeOf o)) d) in
-      rw (walk-met r a s o e) ((omega arith, omega arith, rw (d, add-sub-cancel-left) e), rw add-assoc afterLast))
+      rw (walk-met r a s o e, d, e) (refl, rw add-assoc afterLast))
 
   pub walk-reads : (a : ℕ) → ReadOn r l a (walk r a (drop a l) .items) (walk r a (drop a l) .stop)
   walk-reads a = read-on a (drop a l) refl
 
   -- objects and a stop that are read in this way are those of the walk
   read-only : (items : List Item) (e : Stop) (a : ℕ) → ReadOn r l a items e → record { items = items; stop = e } ≡ walk r a (drop a l)
-  read-only [] e a h =
-      ap (λ (b : ℕ). record { items = []; stop = record { number = e .number; place = b } }) (h .0)
-      ∙ sym (walk-refused r a (drop a l) (e .number) (h .1))
+  read-only [] e a h = sym (walk-stopped r a (drop a l) e h)
   read-only (i ∷ rest) e a h =
-      let o : Object = record { tag = i .tag; at = i .at - a; len = i .len } in
-      let end : a + sizeOf o ≡ i .at + i .len = omega (arith, h .0 .1) in
-      let at : a + o .at ≡ i .at = omega (arith, h .0 .1) in
-      let item : i ≡ itemAt a o = λ j. record { place = h .0 .0 j; tag = i .tag; at = sym at j; len = i .len } in
-      let afterLast : record { items = rest; stop = e } ≡ walk r (a + sizeOf o) (drop (sizeOf o) (drop a l)) =
-      rw (drop-drop (sizeOf o) a l, end) (read-only rest e (i .at + i .len) (h .1)) in
-      (λ j. withItem (item j) (afterLast j)) ∙ sym (walk-met r a (drop a l) o (h .0 .2))
+      let inside = item-inside r a (drop a l) i (h .0) in
+      let end : a + (i .at + i .len - a) ≡ i .at + i .len = omega (arith, inside) in
+      let afterLast : record { items = rest; stop = e } ≡ walk r (i .at + i .len) (drop (i .at + i .len - a) (drop a l)) =
+      rw (drop-drop (i .at + i .len - a) a l, end) (read-only rest e (i .at + i .len) (h .1)) in
+      ap (withItem i) afterLast ∙ sym (walk-item r a (drop a l) i (h .0))
 
-  -- where a reading stops, one object is refused with that number
-  pub read-stop : (items : List Item) (e : Stop) (a : ℕ) → ReadOn r l a items e → objectOf r (drop (e .place) l) ≡ refused (e .number)
-  read-stop [] e a h = rw (h .0) (h .1)
+  -- where a reading stops, the object at that place is refused with that number
+  pub read-stop : (items : List Item) (e : Stop) (a : ℕ) → ReadOn r l a items e
+      → nextOf r (drop (e .place) l) ≡ refused (record { number = e .number; place = 0 })
+  read-stop [] e a h =
+      by-reply (nextOf r (drop a l)) (λ o f. absurd (refused-not-ok e _ (sym (rw f at h)))) (λ k f.
+      let same : movedStop a k ≡ e = cc (rw f at h) in
+      let place = ap (λ (j : Stop). j .place) same in
+      rw (← same, ← drop-drop (k .place) a l) (stop-there r (drop a l) k f))
   read-stop (i ∷ rest) e a h = read-stop rest e (i .at + i .len) (h .1)
 
   pub walk-only : (a : ℕ) (w : Walk) → ReadOn r l a (w .items) (w .stop) → w ≡ walk r a (drop a l)
@@ -57,7 +60,10 @@ pub walk-stops : (r : Reading) (a : ℕ) (s : List ℕ) → Stops a (length s) (
 walk-stops r =
     by-objects r (λ a s. Stops a (length s) (walk r a s .stop))
     (λ a s k e.
-    rw (walk-refused r a s k e) (elim (refused-where r s k e) [ inl h ↦ inl (h .0, omega arith) | inr h ↦ inr (h .0, omega arith, omega arith) ]))
+    rw (walk-refused r a s k e) (elim (refused-where r s k e) [
+      | inl h ↦ inl (h .0, omega (arith, h .1))
+      | inr h ↦ inr (h .0, omega arith, omega (arith, h .1))
+    ]))
     (λ a s o e w deeper.
     rw (walk-met r a s o e) (elim deeper [
       | inl h ↦ inl (h .0, omega (arith, h .1, length-drop (sizeOf o) s))

@@ -5,7 +5,7 @@ use mathlib.Core.List.{List, _++_}
 use lib.ListN.{length, drop}
 use Rattle.basis.specs.Reply.{ok}
 use Rattle.basis.specs.Number.{be}
-use Rattle.tlv.specs.Object.{Object, sizeOf, objectOf}
+use Rattle.tlv.specs.Object.{Item, nextOf, sizeOf}
 use Rattle.tlv.specs.Lookup.{part}
 use Rattle.tlv.specs.declared.Reading.{Reading}
 use Rattle.tlv_write.specs.Written.{objectBytes}
@@ -14,11 +14,11 @@ use Rattle.tlv_write.specs.Written.{objectBytes}
 abbrev pub written : ℕ → List ℕ → List ℕ
 written t v = objectBytes (be 3 t) v
 
-abbrev pub objectFor : ℕ → List ℕ → Object
-objectFor t v = record { tag = t; at = length (written t v) - length v; len = length v }
+abbrev pub objectFor : ℕ → List ℕ → Item
+objectFor t v = record { place = 0; tag = t; at = length (written t v) - length v; len = length v }
 
 -- with any bytes u after it: tag, value and remainder are read (rule 7.4)
 pub record ReadsBack (r : Reading) (t : ℕ) (v u : List ℕ) : Type 0 where
-  pub object : objectOf r (written t v ++ u) ≡ ok (objectFor t v)
+  pub object : nextOf r (written t v ++ u) ≡ ok (objectFor t v)
   pub value : part (written t v ++ u) (record { at = objectFor t v .at; len = objectFor t v .len }) ≡ v
   pub rest : drop (sizeOf (objectFor t v)) (written t v ++ u) ≡ u

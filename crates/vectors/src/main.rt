@@ -1,9 +1,10 @@
 // The program vectors: runs the cases that are run only (rule 11.15), and published vectors: commands of ISO/IEC 7816-3
 // and -4, EMV and ICAO 9303, and records of payment and travel cards. It also runs responses (rules 13.1 to 13.5),
-// exchanges with a card (rules 14.1 to 14.8), and places in records (rules 15.1 to 15.5). It prints for each what was
-// expected and what was found.
+// exchanges with a card (rules 14.1 to 14.8), places in records (rules 15.1 to 15.5), and zero bytes between objects
+// (rules 16.1 to 16.6). It prints for each what was expected and what was found.
 //
 // The cases are the lines of standard input, crates/vectors/stdin, which says at its top how each kind is written.
+mod alone;
 mod commands;
 mod cuts;
 mod exchanges;
@@ -20,6 +21,8 @@ fn line(line: &[u8]) {
         b'c' => commands::run(line),
         b'r' => records::run(line),
         b'o' => objects::run(line),
+        b't' => alone::run(line, true),
+        b'l' => alone::run(line, false),
         b'p' => cuts::run(line, b": expected ", b"refusal "),
         b'u' => cuts::run(line, b": expected refusal ", b""),
         b's' => responses::split(line),

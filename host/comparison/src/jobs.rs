@@ -3,7 +3,6 @@
 use std::sync::atomic::{AtomicUsize, Ordering};
 use std::thread;
 
-use crate::loops::pairs;
 use crate::random::Random;
 use crate::tally::Tally;
 
@@ -99,15 +98,19 @@ impl Results {
         }
     }
 
-    /// Prints how often a refusal came, in all or under a label. Returns whether that is too seldom.
-    fn print_refused(&self, number: u8, count: u64, label: &str) -> bool {
+    /// Prints how often a reply came, in all or under a label. Returns whether that is too seldom.
+    fn print_reply(&self, reply: u8, count: u64, label: &str) -> bool {
         let few = count < self.least();
-        println!("refused {number:>2}: {count:>9}{label}{}", if few { ": TOO FEW" } else { "" });
+        let words = match reply {
+            0 => "done".to_string(),
+            n => format!("refused {n:>2}"),
+        };
+        println!("{words:10}: {count:>9}{label}{}", if few { ": TOO FEW" } else { "" });
         few
     }
 
-    /// Prints the counts, and returns whether the run failed. 11 and 12 must come under each of some labels.
-    pub fn print(&self, labels: impl Iterator<Item = &'static str>) -> bool {
+    /// Prints the counts, and returns whether the run failed. Some replies must come under some labels.
+    pub fn print(&self, required: impl Iterator<Item = (&'static str, u8)>) -> bool {
         self.tally.print();
         let random: u64 = self.random.iter().map(|(_, cases)| cases).sum();
         for (name, cases) in &self.random {
@@ -118,10 +121,10 @@ impl Results {
         }
         let mut failed = self.tally.mismatches() > 0;
         for number in REFUSALS {
-            failed |= self.print_refused(number, self.tally.refused(number), "");
+            failed |= self.print_reply(number, self.tally.refused(number), "");
         }
-        for (label, number) in pairs(labels, [11, 12]) {
-            failed |= self.print_refused(number, self.tally.refused_under(label, number), &format!("  {label}"));
+        for (label, reply) in required {
+            failed |= self.print_reply(reply, self.tally.replied_under(label, reply), &format!("  {label}"));
         }
         println!(
             "compared in all: {} cases, of them {random} random; mismatches: {}",

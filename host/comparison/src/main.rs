@@ -64,11 +64,12 @@ const SHORT_RUN: [Job; 9] = [
 ];
 
 /// The kinds of random cases. There are equally many of each kind.
-const RANDOM_KINDS: [(&str, Job); 11] = [
+const RANDOM_KINDS: [(&str, Job); 12] = [
     ("class and AID", class_and_aid),
     ("command, parsed and owned", command::random_cases),
     ("command, extended", command::random_extensions),
     ("records, read", tlv::random_cases),
+    ("records with zero bytes between objects, read", tlv::random_zeros),
     ("records, written", tlv::random_writing),
     ("command, built", builder::random_cases),
     ("command, one step of splitting", splitter::random_step),
@@ -133,7 +134,7 @@ fn options(words: &[&str]) -> Option<Options> {
 fn compare(options: &Options) -> bool {
     println!("seed {}, random cases asked for {}", options.seed, options.cases);
     let results = jobs::run(options, &SHORT_RUN, &RANDOM_KINDS);
-    let failed = results.print(tlv::refused_labels());
+    let failed = results.print(tlv::required_replies());
     #[cfg(feature = "coverage")]
     let failed = branches::print(&results.branches, results.least()) || failed;
     failed

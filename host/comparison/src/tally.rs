@@ -129,9 +129,9 @@ impl Tally {
         replies.filter_map(|replies| replies.get(&number)).sum()
     }
 
-    /// The same of the calls under one label.
-    pub fn refused_under(&self, label: &str, number: u8) -> u64 {
-        self.counts.get(label).and_then(|count| count.replies.get(&number)).copied().unwrap_or(0)
+    /// How many calls under one label must get this reply, 0 for done.
+    pub fn replied_under(&self, label: &str, reply: u8) -> u64 {
+        self.counts.get(label).and_then(|count| count.replies.get(&reply)).copied().unwrap_or(0)
     }
 
     /// How many mismatches there are, in all threads together.

@@ -2,7 +2,7 @@
 //! cut; objects that are written; and the other tests below. The crate's reading is compared with the Rust. The Rust
 //! returns `None` for 11 and for 12. For an object and a lookup, which it is and its place follow from the remainder at
 //! which the Rust's steps end; for a tag and a length a model says which it is. The standard reading, which the Rust
-//! does not have, is compared with that model.
+//! does not have, is compared with that model. `zeros.rs` has records with zero bytes that only this reading skips.
 
 mod benchmark;
 mod document_cases;
@@ -13,19 +13,21 @@ mod records;
 mod rust_walk;
 mod take;
 mod writing;
+mod zeros;
 
 use std::iter;
 
 use gorvisclen::{CRATE_READING, LEN_NUMBERS, LOOKUP_NUMBERS, OBJECT_NUMBERS, STANDARD_READING, TAG_NUMBERS};
 
 pub use self::benchmark::bench;
-pub use self::labels::refused as refused_labels;
+pub use self::labels::required as required_replies;
 use self::lookup::{find, value, Lookup};
 use self::records::{
     in_templates, length_forms, long_record, no_tag, random_paths, random_record, unreadable_at, Record,
 };
 use self::take::{places_past_end, Len, Object, Tag, Take};
 pub use self::writing::{every_boundary as every_written_boundary, random_cases as random_writing};
+pub use self::zeros::random_cases as random_zeros;
 use crate::call::Call;
 use crate::loops::{pairs, triples};
 use crate::random::Random;
@@ -119,7 +121,7 @@ pub fn every_length(tally: &mut Tally, random: &mut Random) {
 
 /// Every reading, and every length of the lent buffers up to more than is needed.
 fn every_buffer(tally: &mut Tally) {
-    let records: [&[u8]; 7] = [
+    let records: [&[u8]; 8] = [
         &[],
         &[0x5F, 0x24, 0x03, 0x26, 0x10, 0x09],
         &[0x5F, 0x1E, 0x01, 0xAA, 0x5F, 0x24, 0x00],
@@ -127,6 +129,7 @@ fn every_buffer(tally: &mut Tally) {
         &[0x70, 0x04, 0x5F, 0x24, 0x01, 0xAA],
         &[0xDF, 0x81, 0x01, 0x82, 0x00, 0x01, 0xAA],
         &[0x5F, 0x80, 0x01],
+        &[0x00, 0x70, 0x05, 0x00, 0x5F, 0x24, 0x01, 0xAA, 0x00],
     ];
     let paths: [&[u32]; 5] = [&[], &[0x5F24], &[0x70, 0x5F24], &[0x5A], &[0xDF8101]];
     for (record, reading, len) in triples(records, 0..=255, 0..=5) {
@@ -310,4 +313,5 @@ pub fn compare(tally: &mut Tally, random: &mut Random) {
         random_bytes(tally, random);
     }
     writing::compare(tally, random);
+    zeros::compare(tally, random);
 }

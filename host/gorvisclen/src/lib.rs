@@ -14,8 +14,8 @@
 //! | 4 | the first byte after the command's header is not zero, and no short case fits |
 //! | 5 | the first byte after the command's header is zero, and no case fits |
 //! | 6 to 10 | the AID is empty; over 16 bytes; truncated above its length; national under 5; international under 5 |
-//! | 11 | the end was reached at an object boundary: there is no byte where an object would start |
-//! | 12 | an object starts here but cannot be read; a length cannot be read |
+//! | 11 | the end was reached at an object boundary: no byte is left there, or in the standard reading only zeros |
+//! | 12 | an object starts here but cannot be read; a tag or a length alone cannot be read |
 //! | 13 | the data of the command to build are above 65,535 bytes |
 //! | 14 | splitting one step: a buffer under 4, or no room for data in it; a chain: a buffer under 10 |
 //! | 15 | extended length is forced, but unsupported |
@@ -69,10 +69,12 @@ pub type Reply = Result<(), Refused>;
 /// The number that means "there is none", instead of a channel, the length of a part, or a place in a table.
 pub const NONE: u64 = 256;
 
-/// The reading of commands and BER records that the Rust crate has.
+/// The reading of commands and BER records that the Rust crate has. In records it skips no zero bytes: 00 is a tag.
 pub const CRATE_READING: u8 = 0;
 
-/// The reading of the standard. Every other number except 0 means the same.
+/// The reading of the standard. Every other number except 0 means the same. In records it skips zero bytes wherever an
+/// object may start: in front of each object and after the last one, in the record and in each value that is entered.
+/// It skips none in a tag, in a length, between them, or in a value that is not entered. 00 is no tag.
 pub const STANDARD_READING: u8 = 1;
 
 /// Calls an exported function by its name without the prefix, and returns the number of its reply. Each argument has a

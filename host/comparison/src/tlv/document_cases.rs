@@ -1,11 +1,15 @@
-//! Cases with their answers from document 01, the incident, and cases of request 2 of document 02: where a lookup or an
-//! object is refused.
+//! Cases with their answers from document 01, the incident, and cases of document 02: where a lookup or an object is
+//! refused (request 2), and zero bytes between objects (request 3).
+
+mod request_3;
 
 use gorvisclen::{CRATE_READING, LEN_NUMBERS, OBJECT_NUMBERS, STANDARD_READING, TAG_NUMBERS};
 
 use super::lookup::{Found, Lookup};
 use super::records::length_forms;
 use super::take::{Len, Object, Tag, Take};
+use super::writing::{self, put_data_object};
+use crate::answer::Writes;
 use crate::call::Call;
 use crate::loops::pairs;
 use crate::random::Random;
@@ -17,6 +21,8 @@ const RULES: &str = "the rules of BER records, case by case (checked against doc
 const INCIDENT: &str = "the incident (checked against document 01)";
 const PLACES: &str = "where it broke, case by case (checked against document 02)";
 const VECTORS: &str = "the vectors of request 2 (checked against the request's page)";
+const ZEROS: &str = "zero bytes between objects, case by case (checked against document 02)";
+const ZERO_VECTORS: &str = "the vectors of request 3 (checked against the request's page)";
 
 const READINGS: [u8; 2] = [CRATE_READING, STANDARD_READING];
 
@@ -27,13 +33,12 @@ type Both<T> = [T; 2];
 type TakeRow<const N: usize> = (&'static str, &'static str, Both<Result<[u64; N], u8>>);
 
 /// Tags, with each refusal and with each row in which the readings differ.
-const TAGS: [TakeRow<TAG_NUMBERS>; 15] = [
+const TAGS: [TakeRow<TAG_NUMBERS>; 16] = [
     // P7: the crate's reading reads the tag 5F 1E.
     (P7_TO_P9, "5F 1E", [Ok([0x5F1E, 2]), Err(12)]),
     // P8: no reading reads the tag 5F 80.
     (P7_TO_P9, "5F 80, 5F 80 01, 5F 80 01 AA", [Err(12); 2]),
     (RULES, "", [Err(11); 2]),
-    (RULES, "00", [Ok([0x00, 1]); 2]),
     (RULES, "5E 1F", [Ok([0x5E, 1]); 2]),
     (RULES, "5F 1F", [Ok([0x5F1F, 2]); 2]),
     (RULES, "5F 24 03", [Ok([0x5F24, 2]); 2]),
@@ -45,10 +50,13 @@ const TAGS: [TakeRow<TAG_NUMBERS>; 15] = [
     (RULES, "5F FF", [Ok([0x5FFF, 2]), Err(12)]),
     (RULES, "5F FF 01", [Ok([0x5FFF, 2]), Ok([0x5FFF01, 3])]),
     (RULES, "5F, 5F 1D, 5F 81, DF 81 81, DF 81 FE", [Err(12); 2]),
+    // Alone, a zero byte is a tag in the crate's reading, and in the standard reading it is not skipped.
+    (ZEROS, "00, 00 00, 00 C1, 00 C1 01 AA", [Ok([0x00, 1]), Err(12)]),
+    (ZEROS, "01 00, 01", [Ok([0x01, 1]); 2]),
 ];
 
 /// Lengths of each form.
-const LENGTHS: [TakeRow<LEN_NUMBERS>; 7] = [
+const LENGTHS: [TakeRow<LEN_NUMBERS>; 9] = [
     // P9: no reading reads a length that starts with 83.
     (P7_TO_P9, "83 00 00 01", [Err(12); 2]),
     (RULES, "00", [Ok([0, 1]); 2]),
@@ -57,6 +65,9 @@ const LENGTHS: [TakeRow<LEN_NUMBERS>; 7] = [
     (RULES, "82 00 05", [Ok([5, 3]); 2]),
     (RULES, "82 FF FF 00", [Ok([65_535, 3]); 2]),
     (RULES, ", 80 00, 81, 82 05, FF 00 00", [Err(12); 2]),
+    // A zero byte is a length: it is not skipped.
+    (ZERO_VECTORS, "00", [Ok([0, 1]); 2]),
+    (ZEROS, "00 00, 00 05, 00 81 05", [Ok([0, 1]); 2]),
 ];
 
 /// An object in a table: its place, its tag, the value's place, the value's length. Or a refusal and its place.
@@ -66,12 +77,11 @@ type Taken = Result<[u64; OBJECT_NUMBERS], (u8, u64)>;
 type ObjectRow = (&'static str, &'static str, usize, Both<Taken>);
 
 /// Objects, and bytes that are no object.
-const OBJECTS: [ObjectRow; 21] = [
+const OBJECTS: [ObjectRow; 20] = [
     (P7_TO_P9, "5F 1E 01 AA", 0, [Ok([0, 0x5F1E, 3, 1]), Err((12, 0))]),
     (P7_TO_P9, "5F 80, 5F 80 01, 5F 80 01 AA, C1 83 00 00 01 AA", 0, [Err((12, 0)); 2]),
     (RULES, "", 0, [Err((11, 0)); 2]),
     (RULES, "5F 24 03 26 10 09", 0, [Ok([0, 0x5F24, 3, 3]); 2]),
-    (RULES, "00 00 00", 0, [Ok([0, 0x00, 2, 0]); 2]),
     (RULES, "5A 82 00 01 AA BB", 0, [Ok([0, 0x5A, 4, 1]); 2]),
     (RULES, "5F 24 03 26 10, 5F 24", 0, [Err((12, 0)); 2]),
     // Places count from the start of the record.
@@ -103,7 +113,7 @@ const TEMPLATE: u32 = 0x70;
 const DATE: &[u8] = &[0x27, 0x01, 0x31];
 
 /// P7 to P9; the sentences about the lookup, each with a record of its own; the incident.
-const LOOKUPS: [LookupRow; 31] = [
+const LOOKUPS: [LookupRow; 28] = [
     (P7_TO_P9, "5F 1E 01 AA", &[0x5F1E], [Ok((3, &[0xAA], 1)), Err((12, 0, 0))]),
     (P7_TO_P9, "5F 1E 01 AA", &[0x5F1F], [Err((11, 4, 0)), Err((12, 0, 0))]),
     (P7_TO_P9, "5F 80", &[0x5F80], [Err((12, 0, 0)); 2]),
@@ -127,10 +137,6 @@ const LOOKUPS: [LookupRow; 31] = [
     (RULES, "5A 01 AA 5F 80", &[0x5A], [Ok((2, &[0xAA], 1)); 2]),
     (RULES, "5A 01 AA 5F 80", &[0xC1], [Err((12, 3, 0)); 2]),
     (RULES, "5F 80 5A 01 AA", &[0x5A], [Err((12, 0, 0)); 2]),
-    // A zero byte is a tag.
-    (RULES, "00 00 5A 01 AA", &[0x5A], [Ok((4, &[0xAA], 1)); 2]),
-    (RULES, "00 5A 01 AA", &[0x5A], [Err((12, 0, 0)); 2]),
-    (RULES, "5A 01 AA 00 01 BB", &[0x00], [Ok((5, &[0xBB], 1)); 2]),
     // An empty value at the end of the record.
     (RULES, "C1 00 5A 81 00", &[0x5A], [Ok((5, &[], 1)); 2]),
     // A number that is no tag matches nothing.
@@ -214,7 +220,7 @@ fn takes<const N: usize, F: Take<N>>(tally: &mut Tally, take: fn(u8) -> F, rows:
 
 /// Compares objects at places of records with a table.
 fn objects(tally: &mut Tally) {
-    for (label, records, at, answers) in OBJECTS {
+    for (label, records, at, answers) in OBJECTS.into_iter().chain(request_3::OBJECTS) {
         for (record, (reading, answer)) in pairs(records.split(','), READINGS.into_iter().zip(answers)) {
             let answer = answer.map_err(|(number, place)| (number, [place, 0, 0, 0]));
             Object { reading, at }.call(&unhex(record)).compare_with_table(tally, label, &Ok(answer.into()), 0);
@@ -228,6 +234,15 @@ fn lookup(tally: &mut Tally, label: &'static str, record: &[u8], path: &[u32], a
     let path = &path.to_vec();
     for (reading, answer) in READINGS.into_iter().zip(answers) {
         Lookup::new(reading, record, path).compare_with_table(tally, label, answer);
+    }
+}
+
+/// Compares objects that are written with a table.
+fn written(tally: &mut Tally) {
+    for (tag, value, bytes) in request_3::WRITTEN {
+        let (value, bytes) = (unhex(value), unhex(bytes));
+        let answer = Ok(Writes::new([bytes.len() as u64], 1, &bytes));
+        put_data_object(writing::object(tag, &value), 1).compare_with_table(tally, ZEROS, &answer, 8);
     }
 }
 
@@ -265,9 +280,10 @@ pub fn compare(tally: &mut Tally, random: &mut Random) {
     takes(tally, Tag, &TAGS);
     takes(tally, Len, &LENGTHS);
     objects(tally);
-    for (label, record, path, answers) in LOOKUPS.into_iter().chain(REQUEST_2) {
+    for (label, record, path, answers) in LOOKUPS.into_iter().chain(REQUEST_2).chain(request_3::LOOKUPS) {
         lookup(tally, label, &unhex(record), path, answers);
     }
+    written(tally);
     for _ in 0..5_000 {
         random_serial_number(tally, random);
     }

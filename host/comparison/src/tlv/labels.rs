@@ -2,6 +2,7 @@
 
 use gorvisclen::CRATE_READING;
 
+use crate::loops::pairs;
 use crate::tally::Labels;
 
 /// The labels of a tag or a length: if the Rust reads it, if it returns `None`, and in the standard reading.
@@ -39,12 +40,14 @@ impl TakeLabels {
 }
 
 /// The labels of an object or a lookup. Those of refusals are in pairs: at the start of the record, or at the top
-/// level; and further on, or in an entered value.
+/// level; and further on, or in an entered value. So are those of answers, refusals or not, right after zero bytes that
+/// the standard reading skips.
 pub struct WalkLabels {
     pub read: &'static str,
     not_read: [&'static str; 2],
     standard: &'static str,
     standard_not_read: [&'static str; 2],
+    after_zeros: [&'static str; 2],
     /// If the Rust has no such call: an object past the end, a lookup of a number that no tag of the Rust can hold.
     pub no_rust: &'static str,
     /// The label of each number of the Rust's answer.
@@ -65,6 +68,12 @@ macro_rules! walk_labels {
             standard_not_read: [$(concat!(
                 $operation,
                 ", standard reading, 11 or 12 ",
+                $where,
+                " (checked against a model of EMV Book 3 Annex B)"
+            )),*],
+            after_zeros: [$(concat!(
+                $operation,
+                ", standard reading, after zero bytes ",
                 $where,
                 " (checked against a model of EMV Book 3 Annex B)"
             )),*],
@@ -97,8 +106,17 @@ pub const VALUE: WalkLabels = walk_labels!(
     ", a number above FFFFFF (checked against a model of document 01)"
 );
 
+/// The label of a value's bytes in a record and in a copy without zero bytes between objects.
+pub const ZEROS_REMOVED: &str =
+    "get_data_object, the value's bytes, standard reading, zeros removed (checked against a rule: only places change)";
+
 impl WalkLabels {
-    /// The labels for an answer. `further` says of a refusal that it is of the second kind.
+    /// The labels for an answer right after zero bytes that are skipped. `further` says that it is of the second kind.
+    pub fn after_zeros(&self, further: bool) -> Labels {
+        (self.after_zeros[usize::from(further)], &[])
+    }
+
+    /// The labels for another answer. `further` says of a refusal that it is of the second kind.
     pub fn labels(&self, reading: u8, accepted: bool, further: bool) -> Labels {
         match (reading, accepted) {
             (CRATE_READING, true) => (self.read, self.number_labels),
@@ -109,7 +127,12 @@ impl WalkLabels {
     }
 }
 
-/// The labels under which both 11 and 12 must come.
-pub fn refused() -> impl Iterator<Item = &'static str> {
-    [OBJECT, LOOKUP, VALUE].into_iter().flat_map(|labels| [labels.not_read, labels.standard_not_read]).flatten()
+/// The labels under which some replies must come, each with such a reply: 11 and 12; and 0, for done, too if zero bytes
+/// are skipped or removed.
+pub fn required() -> impl Iterator<Item = (&'static str, u8)> {
+    let of_walk = |labels: WalkLabels| {
+        let refused = [labels.not_read, labels.standard_not_read].concat();
+        pairs(refused, [11, 12]).chain(pairs(labels.after_zeros, [0, 11, 12]))
+    };
+    [OBJECT, LOOKUP, VALUE].into_iter().flat_map(of_walk).chain(pairs([ZEROS_REMOVED], [0, 11, 12]))
 }

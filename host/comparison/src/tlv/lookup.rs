@@ -1,6 +1,6 @@
 //! The calls that look up a path: the place of the value, and its bytes.
 
-use gorvisclen::{CRATE_READING, LOOKUP_NUMBERS};
+use gorvisclen::{CRATE_READING, LOOKUP_NUMBERS, STANDARD_READING};
 use original::tlv::Tag;
 
 use super::labels::{WalkLabels, LOOKUP, VALUE};
@@ -95,10 +95,15 @@ impl<'a> Lookup<'a> {
 
     /// The labels that it is counted under.
     fn labels(&self, labels: &WalkLabels, answer: &Answer<LOOKUP_NUMBERS>) -> Labels {
-        let tag_matched = answer.as_ref().is_ok_and(|writes| writes.numbers[2] > 0);
+        let accepted = is_accepted(answer);
+        // The level that the lookup ends in: a tag matched before it.
+        let deeper = answer.as_ref().is_ok_and(|writes| writes.numbers[2] > accepted.into());
         match self.reading {
             CRATE_READING if self.has_too_large_number() => (labels.no_rust, &[]),
-            reading => labels.labels(reading, is_accepted(answer), tag_matched),
+            STANDARD_READING.. if model::ends_after_zeros(self.reading, &self.record, &self.path) => {
+                labels.after_zeros(deeper)
+            }
+            reading => labels.labels(reading, accepted, deeper),
         }
     }
 

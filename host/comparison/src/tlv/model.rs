@@ -1,9 +1,10 @@
-//! A model of BER records in both readings, from document 01, and of the places that request 2 of document 02 adds. If
-//! the Rust returns `None` for a tag or a length, the model says whether that is 11 or 12. It is the reference for the
-//! standard reading, which the Rust does not have, and which document 01 takes from EMV Book 3 Annex B; and for numbers
-//! in a path that no tag of the Rust can hold.
+//! A model of BER records in both readings, from document 01, and from document 02: of the places that request 2 adds,
+//! and of the zero bytes that the standard reading skips since request 3. If the Rust returns `None` for a tag or a
+//! length, the model says whether that is 11 or 12. It is the reference for the standard reading, which the Rust does
+//! not have, and which document 01 takes from EMV Book 3 Annex B; and for numbers in a path that no tag of the Rust can
+//! hold.
 
-use gorvisclen::{CRATE_READING, LEN_NUMBERS, LOOKUP_NUMBERS, OBJECT_NUMBERS, TAG_NUMBERS};
+use gorvisclen::{CRATE_READING, LEN_NUMBERS, LOOKUP_NUMBERS, OBJECT_NUMBERS, STANDARD_READING, TAG_NUMBERS};
 
 use crate::answer::Told;
 
@@ -23,6 +24,8 @@ fn tag_len(reading: u8, bytes: &[u8]) -> Result<usize, u8> {
     let low_five = bytes.first().map(|b1| b1 % 32);
     match (reading, bytes) {
         (_, []) => Err(END),
+        // Request 3: in the standard reading, which has every number from 1 on, a zero byte is no tag.
+        (STANDARD_READING.., [0x00, ..]) => Err(UNREADABLE),
         _ if low_five != Some(31) => Ok(1),
         (_, [_]) => Err(UNREADABLE),
         (CRATE_READING, [_, 0x00..=0x1D | 0x80, ..]) => Err(UNREADABLE),
@@ -52,10 +55,20 @@ pub fn len(bytes: &[u8]) -> Result<[u64; LEN_NUMBERS], u8> {
     }
 }
 
-/// The object at a place of a record: its place, its tag, the place of its value, the value's length. 11 is at the end
-/// of the record, 12 at the object's first byte.
+/// Request 3: how many zero bytes are skipped at the front of some bytes, where an object may start. The standard
+/// reading skips all of them, the crate's reading none.
+fn skipped(reading: u8, bytes: &[u8]) -> usize {
+    match reading {
+        CRATE_READING => 0,
+        _ => bytes.iter().take_while(|&&byte| byte == 0).count(),
+    }
+}
+
+/// The object at a place of a record, after the zero bytes that are skipped there: its place, its tag, the place of its
+/// value, the value's length. 11 is at the end of the record, 12 at the object's first byte.
 pub fn object(reading: u8, record: &[u8], at: usize) -> Told<OBJECT_NUMBERS> {
     let at = at.min(record.len());
+    let at = at + skipped(reading, &record[at..]);
     let bytes = &record[at..];
     let at = at as u64;
     let refused = |number| (number, [at, 0, 0, 0]);
@@ -72,12 +85,27 @@ pub fn object(reading: u8, record: &[u8], at: usize) -> Told<OBJECT_NUMBERS> {
 /// with the tag is entered, and the record is read up to the end of its value. A refusal has its place in the record,
 /// no length, and how many tags matched before it.
 pub fn lookup(reading: u8, record: &[u8], path: &[u32]) -> Told<LOOKUP_NUMBERS> {
+    walk(reading, record, path, &mut false)
+}
+
+/// Whether a lookup skips zero bytes right before it ends: before the object that it finds, before the one that it
+/// cannot read, or before the end that it reaches.
+pub fn ends_after_zeros(reading: u8, record: &[u8], path: &[u32]) -> bool {
+    let mut after_zeros = false;
+    let _ = walk(reading, record, path, &mut after_zeros);
+    after_zeros
+}
+
+/// A lookup. It also notes whether the object that it reads, or the end, comes after zero bytes.
+fn walk(reading: u8, record: &[u8], path: &[u32], after_zeros: &mut bool) -> Told<LOOKUP_NUMBERS> {
     let (mut start, mut end) = (0, record.len());
     for (matched, &wanted) in (0..).zip(path) {
         let mut at = start;
         loop {
             let object = object(reading, &record[..end], at);
-            let [_, tag, value, len] = object.map_err(|(number, [place, ..])| (number, [place, 0, matched]))?;
+            let (Ok([place, ..]) | Err((_, [place, ..]))) = object;
+            *after_zeros = place > at as u64;
+            let [_, tag, value, len] = object.map_err(|(number, _)| (number, [place, 0, matched]))?;
             at = (value + len) as usize;
             if tag == wanted.into() {
                 (start, end) = (value as usize, at);

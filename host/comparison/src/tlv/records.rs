@@ -2,9 +2,13 @@
 
 use std::ops::Range;
 
+use gorvisclen::STANDARD_READING;
+
+use super::model;
 use crate::random::Random;
 
-/// Tags that both readings read, of one, two and three bytes. Some are next to tags that are refused.
+/// Tags that both readings read, of one, two and three bytes. Some are next to tags that are refused. But the first, a
+/// zero byte, is a tag in the crate's reading only: the standard reading skips it.
 const TAGS: [u32; 24] = [
     0x00, 0x5A, 0xC1, 0x24, 0x70, 0x6F, 0xE1, 0x5F24, 0x5F25, 0x5F1F, 0x5F7F, 0x1F20, 0x9F36, 0x7F21, 0xBF2C, 0xFF1F,
     0xDF8101, 0x7F8100, 0x1FFE7F, 0x5F9024, 0xFF817F, 0x3FC01F, 0xDFA45F, 0x9F8124,
@@ -112,11 +116,41 @@ pub fn random_record(random: &mut Random, depth: usize) -> Record {
     record
 }
 
-/// Small objects with random tags, but never the last of `TAGS`, up to a few bytes more than `len`.
-fn small_objects(random: &mut Random, len: usize) -> Record {
+/// A copy of a record with other zero bytes in front of each object and of the end, and so in the value of each object,
+/// `levels` levels deep. `run` says how many there are each time. Lengths are as they must be then, in a random form.
+/// Objects are those of the standard reading; the bytes from one that cannot be read stay. The paths lead to all
+/// objects.
+pub fn with_zeros(
+    random: &mut Random,
+    bytes: &[u8],
+    levels: usize,
+    run: &mut dyn FnMut(&mut Random) -> usize,
+) -> Record {
+    if levels == 0 {
+        return Record { bytes: bytes.to_vec(), ..Record::default() };
+    }
+    let (mut copy, mut at) = (Record::default(), 0);
+    loop {
+        copy.bytes.extend(vec![0; run(random)]);
+        match model::object(STANDARD_READING, bytes, at) {
+            Ok([_, tag, value, len]) => {
+                at = (value + len) as usize;
+                let inside = with_zeros(random, &bytes[value as usize..at], levels - 1, run);
+                copy.add(random, tag as u32, inside);
+            }
+            Err((_, [place, ..])) => {
+                copy.bytes.extend(&bytes[place as usize..]);
+                return copy;
+            }
+        }
+    }
+}
+
+/// Small objects with random tags out of these, up to a few bytes more than `len`.
+fn small_objects(random: &mut Random, tags: &[u32], len: usize) -> Record {
     let mut record = Record::default();
     while record.bytes.len() < len {
-        let tag = random.one_of(&TAGS[..TAGS.len() - 1]);
+        let tag = random.one_of(tags);
         let n = random.below(6);
         let bytes = random.bytes(n);
         record.add(random, tag, Record { bytes, ..Record::default() });
@@ -126,12 +160,13 @@ fn small_objects(random: &mut Random, len: usize) -> Record {
 
 /// A long record of small objects, then a template, then one last object. In the template are small objects of `inner`
 /// bytes or a few more, and the last object too. The paths lead to the last object of the record and of the template.
+/// Both readings read all of it.
 pub fn long_record(random: &mut Random, outer: usize, inner: usize) -> Record {
-    let last = TAGS[TAGS.len() - 1];
+    let [_, tags @ .., last] = TAGS;
     let end = Record { bytes: vec![0x26, 0x10, 0x09], ..Record::default() };
-    let mut inside = small_objects(random, inner);
+    let mut inside = small_objects(random, &tags, inner);
     inside.add(random, last, end.clone());
-    let mut record = small_objects(random, outer);
+    let mut record = small_objects(random, &tags, outer);
     record.add(random, TEMPLATE, inside);
     record.add(random, last, end);
     record.paths = vec![vec![last], vec![TEMPLATE, last]];
@@ -144,7 +179,7 @@ pub fn in_templates(random: &mut Random, bytes: &[u8], depth: usize) -> Record {
     let mut bytes = bytes.to_vec();
     for _ in 0..depth {
         let before = random.below(8);
-        let mut outer = small_objects(random, before);
+        let mut outer = small_objects(random, &TAGS[..TAGS.len() - 1], before);
         outer.add(random, TEMPLATE, Record { bytes, ..Record::default() });
         outer.bytes.extend(random_value(random));
         bytes = outer.bytes;

@@ -30,6 +30,11 @@ pub trait Take<const N: usize>: Input + Copy {
     /// The labels for an answer that is accepted or refused, if there are so many bytes.
     fn labels(&self, len: usize, accepted: bool) -> Labels;
 
+    /// The labels for an answer on some bytes. Every string, below, is counted by its reply alone.
+    fn labels_of(&self, bytes: &[u8], answer: &Answer<N>) -> Labels {
+        self.labels(bytes.len(), is_accepted(answer))
+    }
+
     /// The call on some bytes.
     fn call(self, bytes: &[u8]) -> impl Call<N> {
         let operation = (self.reading() == CRATE_READING).then_some(Self::OPERATION);
@@ -39,7 +44,7 @@ pub trait Take<const N: usize>: Input + Copy {
             |(take, bytes), _, out| take.ours(bytes, out),
             |(take, bytes), _| take.answer(bytes),
         )
-        .labelled_by(|(take, bytes), _, answer| Some(take.labels(bytes.len(), is_accepted(answer))))
+        .labelled_by(|(take, bytes), _, answer| Some(take.labels_of(bytes, answer)))
         .recorded_as(operation)
     }
 
@@ -186,6 +191,14 @@ impl Take<OBJECT_NUMBERS> for Object {
         match self.at > len {
             true => (labels::OBJECT.no_rust, &[]),
             false => labels::OBJECT.labels(self.reading, accepted, self.at > 0),
+        }
+    }
+
+    /// If zero bytes are skipped, the place of the object, or of the end, is a later one.
+    fn labels_of(&self, record: &[u8], answer: &Answer<OBJECT_NUMBERS>) -> Labels {
+        match answer {
+            Ok(writes) if writes.numbers[0] > self.at as u64 => labels::OBJECT.after_zeros(self.at > 0),
+            _ => self.labels(record.len(), is_accepted(answer)),
         }
     }
 }

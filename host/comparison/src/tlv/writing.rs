@@ -147,6 +147,10 @@ fn every_tag(tally: &mut Tally, random: &mut Random) {
 
 /// Every tag with this first byte that the standard reading reads.
 fn accepted(b1: u32) -> Vec<u32> {
+    // Request 3: a zero byte is no tag.
+    if b1 == 0 {
+        return Vec::new();
+    }
     if b1 % 32 != 31 {
         return vec![b1];
     }
@@ -155,23 +159,25 @@ fn accepted(b1: u32) -> Vec<u32> {
     two.chain(three).collect()
 }
 
-/// A tag that is written, then read in the standard reading, comes back with its value.
+/// A tag that is written, then read in the standard reading, comes back with its value, also after zero bytes.
 fn read_back(tally: &mut Tally, random: &mut Random, tag: u32) {
     let n = match random.below(64) {
         0 => random.one_of(&[127, 128, 255, 256]),
         _ => random.below(4),
     };
-    let (value, at) = (&random.bytes(n)[..], random.below(3));
-    let mut buffer = vec![0xEE; at + n + 6];
+    let (value, at) = (&random.bytes(n)[..], random.below(6));
+    // It is read from a place up to three zero bytes before its own.
+    let from = at / 2;
+    let mut buffer = [vec![0; at], vec![0xEE; n + 6]].concat();
     // After a refusal there is nothing to read, and the comparison fails.
     let _ = gorvisclen::put_data_object(object(tag, value).0, value, &mut buffer, at, &mut [0]);
 
     let head = tag_bytes(tag).len() + length_forms(n)[0].len();
     let answer = [at as u64, tag.into(), (at + head) as u64, n as u64].into();
-    let object = take::Object { reading: STANDARD_READING, at };
+    let object = take::Object { reading: STANDARD_READING, at: from };
     object.call(&buffer).compare_with_table(tally, READ_BACK, &Ok(answer), 0);
-    let found = Ok((head as u64, value, 1));
-    Lookup::new(STANDARD_READING, &buffer[at..], &[tag]).compare_with_table(tally, READ_BACK, found);
+    let found = Ok(((at - from + head) as u64, value, 1));
+    Lookup::new(STANDARD_READING, &buffer[from..], &[tag]).compare_with_table(tally, READ_BACK, found);
 }
 
 /// A random object, in buffers that it just fits, and in a random buffer from a random place; and a tag that is read

@@ -7,7 +7,7 @@ use mathlib.Core.List.{List, [], _∷_, _++_}
 use lib.ListN.{length, drop, length-drop}
 use lib.Seq.{drop-drop}
 use Rattle.basis.specs.Reply.{ok}
-use Rattle.tlv.specs.Object.{Item, objectOf, placed, asReply}
+use Rattle.tlv.specs.Object.{Item, nextOf, moved, asReply}
 use Rattle.tlv.specs.declared.Reading.the-variants.{Crate}
 use Rattle.tlv.proofs.Walk.{item-inside}
 use Rattle.listing.specs.Text.{line, objectLine, objectLines}
@@ -34,7 +34,7 @@ whole c = c .before .before .before .before .args .«record» .now
 abbrev rest : Turn → List ℕ
 rest c = drop (c .before .loop .at) (whole c)
 
-read : (c : Turn) → placed (c .before .loop .at) (objectOf Crate (rest c)) ≡ asReply (c .take-data-object .result)
+read : (c : Turn) → moved (c .before .loop .at) (nextOf Crate (rest c)) ≡ asReply (c .take-data-object .result)
 read c =
     sym (c .take-data-object .ensures
     ∙ rw (min-eq-left {n = c .before .loop .at} {m = length (whole c)} (c .before .loop .inv .1)))
@@ -49,7 +49,7 @@ turn c = c .before .before
 abbrev item : Met → Item
 item c = let g = c .tag .given .0 in record { place = g .0; tag = g .1 .0; at = g .1 .1 .0; len = g .1 .1 .1 .0 }
 
-item-read : (c : Met) → placed (turn c .before .loop .at) (objectOf Crate (rest (turn c))) ≡ ok (item c)
+item-read : (c : Met) → moved (turn c .before .loop .at) (nextOf Crate (rest (turn c))) ≡ ok (item c)
 item-read c = read (turn c) ∙ ap asReply (c .tag .given .1)
 
 inside : (c : Met) → let l = turn c .before in (l .loop .at + 1 ≤ item c .at) × (item c .at + item c .len ≤ length (whole (turn c)))

@@ -27,7 +27,7 @@ abbrev t : tie.After-tag → Tag
 t c = record { number = c .tag .given .0 .0; size = c .tag .given .0 .1 .0 }
 
 tagged : (c : tie.After-tag) → tagOf (by c) (bytes c) ≡ ok (t c)
-tagged c = sym (c .before .before .take-tag .ensures) ∙ ap tag-reply (c .tag .given .1)
+tagged c = sym (c .before .before .front-tag .ensures) ∙ ap tag-reply (c .tag .given .1)
 
 within : (c : tie.After-tag) → Tagged (length (bytes c)) (t c)
 within c = all-is (Tagged (length (bytes c))) (tagOf (by c) (bytes c)) (t c) (tag-within (by c) (bytes c)) (tagged c)
@@ -72,11 +72,11 @@ returns c =
 
 returns-2 : tie.Need-returns-2
 unfolding objectOf
-returns-2 c = rw (sym (c .before .before .take-tag .ensures) ∙ ap tag-reply (c .enum-told .given .1))
+returns-2 c = rw (sym (c .before .before .front-tag .ensures) ∙ ap tag-reply (c .enum-told .given .1))
 
 returns-3 : tie.Need-returns-3
 unfolding objectOf
-returns-3 c = rw (sym (c .before .before .take-tag .ensures) ∙ ap tag-reply (c .enum-told2 .given .1))
+returns-3 c = rw (sym (c .before .before .front-tag .ensures) ∙ ap tag-reply (c .enum-told2 .given .1))
 
 returns-4 : tie.Need-returns-4
 unfolding objectOf
