@@ -1,4 +1,4 @@
--- Padding: zero bytes without meaning in front of an object (rules 16.1 and 16.2). EMV Book 3 Annex B: 00 bytes may
+-- Padding: zero bytes without meaning where an object may start (rules 16.1 and 16.2). EMV Book 3 Annex B: 00 bytes may
 -- stand before, between or after objects.
 use Prim.Native.Nat.{ℕ, suc}
 use mathlib.Core.Bool.{cond}

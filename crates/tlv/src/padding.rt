@@ -1,4 +1,4 @@
-// Padding: zero bytes without meaning in front of an object (rules 16.1 and 16.2). The Rust does not have it.
+// Padding: zero bytes without meaning where an object may start (rules 16.1 and 16.2). The Rust does not have it.
 ghost use mathlib.Core.Path.{_≡_};
 ghost use lib.Dec.{leb};
 ghost use Rattle.tlv.specs.Padding.{zeros, padding};

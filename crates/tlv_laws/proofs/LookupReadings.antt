@@ -18,13 +18,13 @@ use Rattle.tlv.specs.declared.Reading.{Reading}
 use Rattle.tlv.specs.declared.Reading.the-variants.{Crate, Standard}
 use Rattle.tlv.proofs.Within.{crate-item, crate-stop}
 use Rattle.tlv.proofs.Walk.{walk-refused, walk-met, by-objects, seek-refused, seek-is}
-use Rattle.tlv_laws.specs.Readings.{objectDiffers, meetsOf, meetsAt, meetsFrom, meets, FirstMet}
+use Rattle.tlv_laws.specs.Readings.{objectDiffers, meetsOf, meetsAt, meetsFrom, meets, FirstMet, fromThere}
 use Rattle.tlv_laws.specs.Plain.{plain}
 use Rattle.tlv_laws.specs.Value.{ofValue}
 use Rattle.tlv_laws.proofs.TruthValues.{by-test, same-cond, neither}
 use Rattle.tlv_laws.proofs.AfterMatch.{follow-append}
 use Rattle.tlv_laws.proofs.Boundary.{walked-at, walk-on, walked-none, walked-append, walked-next}
-use Rattle.tlv_laws.proofs.ObjectReadings.{objects-alike}
+use Rattle.tlv_laws.proofs.ObjectReadings.{objects-alike, differing-objects}
 
 -- whether such bytes are met at one level, walked from place a of the bytes l on: where no object is read, and where
 -- one is
@@ -146,7 +146,7 @@ pub meets-none : (s path : List ℕ)
 meets-none s path = path-none s 0 (wholeRecord s) path
 
 -- a lookup goes on after whole objects without the tag, in either reading
-pub lookup-on : (r : Reading) (s front rest : List ℕ) (t : ℕ) (p : Found) (x y : List ℕ) → lookup r s front ≡ ok p
+lookup-on : (r : Reading) (s front rest : List ℕ) (t : ℕ) (p : Found) (x y : List ℕ) → lookup r s front ≡ ok p
     → part s (spanOf p) ≡ x ++ y → plain (lookup r x (t ∷ [])) ≡ refused 11
     → lookup r s (front ++ (t ∷ rest))
     ≡ then (searched (p .matched) (seek r t (p .at + length x) y)) (λ q. follow r s (p .matched + 1) q rest)
@@ -205,3 +205,13 @@ path-met s n p (t ∷ path) e =
 
 pub lookups-met : (s path : List ℕ) → meets s path ≡ true → FirstMet s 0 (wholeRecord s) path
 lookups-met s path = path-met s 0 (wholeRecord s) path
+
+-- each lookup is then what its reading makes of the rest: so the two lookups are equal exactly if these replies are
+pub met-lookup : (r : Reading) (s path : List ℕ) (m : FirstMet s 0 (wholeRecord s) path) → lookup r s path ≡ fromThere r s path m
+met-lookup r s path m =
+    ap (λ (p : List ℕ). lookup r s p) (m .path-is)
+    ∙ lookup-on r s (m .front) (m .rest) (m .t) (m .q) (m .x) (m .y) (m .led r) (m .level) (m .walked r)
+
+-- and the next object there is not the same in both readings
+pub met-apart : (s path : List ℕ) (m : FirstMet s 0 (wholeRecord s) path) → nextOf Crate (m .y) ≡ nextOf Standard (m .y) → ⊥
+met-apart s path m = differing-objects (m .y) (m .differs)

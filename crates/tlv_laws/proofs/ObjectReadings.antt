@@ -24,7 +24,7 @@ use Rattle.tlv_laws.specs.Readings.{tagDiffers, isRead, objectDiffers}
 use Rattle.tlv_laws.proofs.TruthValues.{by-test, neither, not-true-false}
 use Rattle.tlv_laws.proofs.Padded.{placeOf, next-place}
 use Rattle.tlv_laws.proofs.Boundary.{front-refused, TagOf, object-tag}
-use Rattle.tlv_laws.proofs.Readings.{tags-alike, differing-tags, no-padding}
+use Rattle.tlv_laws.proofs.Readings.{tags-alike, differing-tags, no-padding, starts-zero}
 
 -- a tag on which they differ has at least two bytes
 differs-long : (s : List ℕ) → tagDiffers s ≡ true → (2 ≤ length s) × (getD s 0 0 % 32 ≡ 31)
@@ -112,7 +112,7 @@ unpadded r s e = next-after r s 0 (sym e)
 pub objects-alike : (s : List ℕ) → objectDiffers s ≡ false → nextOf Crate s ≡ nextOf Standard s
 unfolding objectDiffers
 objects-alike s d =
-    let n = neither (leb 1 (zeros s)) _ d in
+    let n = neither (leb 1 (zeros s)) _ (rw (starts-zero s) at d) in
     let same : objectOf Crate s ≡ objectOf Standard s =
     by-test (tagDiffers s)
     (λ g.
@@ -129,7 +129,7 @@ differing-objects s d e =
     (λ z. omega (arith, leb-true 1 (zeros s) z, standard-padding s, next-place Standard s, next-place Crate s, crate-padding s, ap placeOf e))
     (λ z.
     let front = sym (unpadded Crate s (crate-padding s)) ∙ e ∙ unpadded Standard s (no-padding s z) in
-    by-test (tagDiffers s) (λ g. read-apart s g (rw (z, g) at d) front) (λ g. false≢true (rw (z, g) at d)))
+    by-test (tagDiffers s) (λ g. read-apart s g (rw (starts-zero s, z, g) at d) front) (λ g. false≢true (rw (starts-zero s, z, g) at d)))
 
 pub objects-differ : (s : List ℕ) → Differ (objectDiffers s ≡ true) (nextOf Crate s) (nextOf Standard s)
 objects-differ s = record {

@@ -11,20 +11,20 @@ use lib.ListN.{length, take, drop, length-take, length-drop, length-append}
 use lib.Seq.{take-take, take-length, take-append-le, drop-at, drop-append-le, drop-append-seam, drop-append-add, drop-drop}
 use borrow.Author.Tests.{eqb-true, eqb-false}
 use Rattle.basis.specs.Reply.{Told, ok, refused}
-use Rattle.basis.proofs.Reply.{by-reply}
+use Rattle.basis.proofs.Reply.{by-reply, refused-not-ok}
 use Rattle.basis.proofs.Over.{drop-take}
 use Rattle.tlv.specs.Padding.{padding}
 use Rattle.tlv.specs.Object.{Item, Stop, nextOf, sizeOf}
-use Rattle.tlv.specs.Walk.{walk}
-use Rattle.tlv.specs.Lookup.{Span, part, wholeRecord, seek, Found, spanOf, follow, lookup}
+use Rattle.tlv.specs.Walk.{Walk, walk}
+use Rattle.tlv.specs.Lookup.{Span, part, wholeRecord, seek, Found, Halt, spanOf, follow, lookup}
 use Rattle.tlv.specs.declared.Reading.{Reading}
 use Rattle.tlv.specs.declared.Reading.the-variants.{Standard}
 use Rattle.tlv.proofs.Within.{next-inside}
-use Rattle.tlv.proofs.Walk.{walk-refused, walk-met, by-objects, seek-is, seek-inside}
+use Rattle.tlv.proofs.Walk.{next-nothing, walk-refused, walk-met, by-objects, seek-is, seek-inside}
 use Rattle.tlv_laws.specs.Padding.{zeroBytes, Value, Refusal, shown}
 use Rattle.tlv_laws.proofs.TruthValues.{by-test}
 use Rattle.tlv_laws.proofs.FrontOfBytes.{next-front}
-use Rattle.tlv_laws.proofs.Padded.{seek-padded}
+use Rattle.tlv_laws.proofs.Padded.{walk-padded, seek-padded}
 use Rattle.tlv_laws.proofs.Boundary.{refused-where}
 use Rattle.tlv_laws.proofs.AfterMatch.{follow-append}
 use Rattle.tlv_laws.proofs.Place.{value-matched}
@@ -186,3 +186,57 @@ unfolding follow
 padding-unseen-at-the-top x y k whole =
     padding-unseen (x ++ y) (x ++ (zeroBytes k ++ y)) [] _ _ x y k refl refl (take-length (x ++ y))
     (take-length (x ++ (zeroBytes k ++ y))) whole
+
+-- in plain words: what two lookups that show the same have in common
+abbrev bytesShown : Told Refusal Value → List ℕ
+bytesShown (ok v) = v .bytes
+bytesShown (refused h) = []
+
+abbrev matchedShown : Told Refusal Value → ℕ
+matchedShown (ok v) = v .matched
+matchedShown (refused h) = h .matched
+
+abbrev numberShown : Told Refusal Value → ℕ
+numberShown (ok v) = 0
+numberShown (refused h) = h .number
+
+module _ (s s′ : List ℕ) (x x′ : Told Halt Found) (same : shown s′ x′ ≡ shown s x) where
+  pub shown-found : (p : Found) → x ≡ ok p
+      → (p′ : Found) × ((x′ ≡ ok p′) × (part s′ (spanOf p′) ≡ part s (spanOf p)) × (p′ .matched ≡ p .matched))
+  shown-found p e =
+      by-reply x′
+      (λ p′ f. let t : shown s′ (ok p′) ≡ shown s (ok p) = rw (f, e) at same in (p′, (f, ap bytesShown t, ap matchedShown t)))
+      (λ h f. absurd (refused-not-ok _ _ (rw (f, e) at same)))
+
+  pub shown-refused : (h : Halt) → x ≡ refused h
+      → (h′ : Halt) × ((x′ ≡ refused h′) × (h′ .number ≡ h .number) × (h′ .matched ≡ h .matched))
+  shown-refused h e =
+      by-reply x′
+      (λ p f. absurd (refused-not-ok _ _ (sym (rw (f, e) at same))))
+      (λ h′ f. let t : shown s′ (refused h′) ≡ shown s (refused h) = rw (f, e) at same in (h′, (f, ap numberShown t, ap matchedShown t)))
+
+-- bytes whose walk stops with 11, as padding-unseen asks for: no bytes, and such bytes after such bytes
+pub whole-none : (r : Reading) → walk r 0 [] .stop .number ≡ 11
+whole-none r = rw (walk-refused r 0 [] _ (next-nothing r))
+
+module _ (r : Reading) (y : List ℕ) where
+  stops-after : (a : ℕ) (x : List ℕ) → walk r a x .stop .number ≡ 11 → walk r a (x ++ y) .stop ≡ walk r (a + length x) y .stop
+  stops-after =
+      by-objects r (λ a x. walk r a x .stop .number ≡ 11 → walk r a (x ++ y) .stop ≡ walk r (a + length x) y .stop)
+      (λ a x e h eleven.
+      let number : e .number ≡ 11 = rw (walk-refused r a x e h) at eleven in
+      elim (refused-where r x e h) [ inl f ↦ ap (λ (w : Walk). w .stop) (walk-padded r x (f .2) a y) | inr f ↦ absurd (omega (arith, number, f .0)) ])
+      (λ a x i e w deeper eleven.
+      let inside = next-inside r x i e in
+      let k = sizeOf i in
+      let read = next-front r x (x ++ y) i e (take-append-le (i .at) x y (omega (arith, inside))) (simp length-append (omega (arith, inside))) in
+      let place : a + k + length (drop k x) ≡ a + length x = simp length-drop (omega (arith, inside)) in
+      rw (walk-met r a (x ++ y) i read, drop-append-le k x y (omega (arith, inside)), ← place) (deeper (rw (walk-met r a x i e) at eleven)))
+
+  stop-number : (a b : ℕ) (s : List ℕ) → walk r a s .stop .number ≡ walk r b s .stop .number
+  stop-number a b s = by-objects r (λ a s. (b : ℕ) → walk r a s .stop .number ≡ walk r b s .stop .number)
+      (λ a s e h b. rw (walk-refused r a s e h, walk-refused r b s e h))
+      (λ a s i e w deeper b. rw (walk-met r a s i e, walk-met r b s i e) (deeper (b + sizeOf i))) a s b
+
+  pub whole-append : (x : List ℕ) → walk r 0 x .stop .number ≡ 11 → walk r 0 y .stop .number ≡ 11 → walk r 0 (x ++ y) .stop .number ≡ 11
+  whole-append x h g = ap (λ (e : Stop). e .number) (stops-after 0 x h) ∙ stop-number (0 + length x) 0 y ∙ g

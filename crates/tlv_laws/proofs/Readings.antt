@@ -3,22 +3,22 @@
 use Prim.Native.Nat.{ℕ, _%_, _≤_, _<_}
 use mathlib.Core.Path.{_≡_, refl, sym, _∙_}
 use mathlib.Core.Bool.{Bool, true, false, cond, true≢false, false≢true}
-use mathlib.Core.List.{List}
+use mathlib.Core.List.{List, [], _∷_}
 use native.Mathlib.Omega.{arith}
 use native.Mathlib.Decide.{decLt, decLe}
 use lib.Dec.{ltb, leb, eqb}
 use lib.ListN.{length, getD}
-use borrow.Author.Tests.{ltb-false, leb-true, leb-false, eqb-true, eqb-false, le-leb, lt-leb, eq-eqb, ne-eqb}
+use borrow.Author.Tests.{le-ltb, ltb-false, leb-true, leb-false, eqb-true, eqb-false, le-leb, lt-leb, eq-eqb, ne-eqb}
 use Rattle.basis.specs.Differ.{Differ}
 use Rattle.basis.proofs.Reply.{All, all-is, refused-not-ok}
 use Rattle.basis.proofs.Truth.{both-true, on-cond}
 use Rattle.tlv.specs.Padding.{zeros, padding}
 use Rattle.tlv.specs.Tag.{Tag, inRange, tagSize, crateTagSize, standardTagSize, thirdByte, crateThirdByte, threeBytes, longTag, tagOf, tagAlone}
 use Rattle.tlv.proofs.InRange.{inside, below, above}
-use Rattle.tlv.proofs.Zeros.{first-zero, crate-padding, standard-padding}
+use Rattle.tlv.proofs.Zeros.{zeros-nothing, zeros-by-first, first-zero, crate-padding, standard-padding}
 use Rattle.tlv.proofs.Tags.{tag-one, tag-two, tag-three, by-tag, alone-unpadded, alone-padded}
 use Rattle.tlv.specs.declared.Reading.the-variants.{Crate, Standard}
-use Rattle.tlv_laws.specs.Readings.{isOrFF, secondDiffers, thirdDiffers, tagDiffers, tagAloneDiffers}
+use Rattle.tlv_laws.specs.Readings.{isOrFF, secondDiffers, thirdDiffers, tagDiffers, startsZero, tagAloneDiffers}
 use Rattle.tlv_laws.proofs.TruthValues.{by-test, same-cond, neither, not-true-false}
 
 -- a byte b is k or at least FF: what the test says
@@ -193,6 +193,12 @@ differing-tags s e q =
 pub tags-differ : (s : List ℕ) → Differ (tagDiffers s ≡ true) (tagOf Crate s) (tagOf Standard s)
 tags-differ s = record { differ = differing-tags s; equal = λ h. tags-alike s (not-true-false (tagDiffers s) h) }
 
+-- padding stands in front exactly if the first byte is 00
+pub starts-zero : (s : List ℕ) → startsZero s ≡ leb 1 (zeros s)
+unfolding startsZero
+starts-zero [] = rw zeros-nothing
+starts-zero (b ∷ s) = rw (le-ltb (length (b ∷ s)) 1 (omega arith)) (sym (zeros-by-first (b ∷ s) (omega arith)))
+
 -- a tag read alone: also if the first byte is 00 (rule 16.7)
 pub no-padding : (s : List ℕ) → leb 1 (zeros s) ≡ false → padding Standard s ≡ 0
 no-padding s z = standard-padding s ∙ omega (arith, leb-false 1 (zeros s) z)
@@ -211,8 +217,8 @@ tags-alone-differ s = record {
       let crate = alone-unpadded Crate s (crate-padding s) in
       by-test (leb 1 (zeros s))
       (λ z. alone-apart s (leb-true 1 (zeros s) z) (sym crate ∙ e))
-      (λ z. differing-tags s (rw z at d) (sym crate ∙ e ∙ alone-unpadded Standard s (no-padding s z)));
+      (λ z. differing-tags s (rw (starts-zero s, z) at d) (sym crate ∙ e ∙ alone-unpadded Standard s (no-padding s z)));
   equal = λ h.
-      let n = neither (leb 1 (zeros s)) (tagDiffers s) (not-true-false _ h) in
+      let n = neither (leb 1 (zeros s)) (tagDiffers s) (rw (starts-zero s) at (not-true-false _ h)) in
       alone-unpadded Crate s (crate-padding s) ∙ tags-alike s (n .1) ∙ sym (alone-unpadded Standard s (no-padding s (n .0)));
 }

@@ -1,5 +1,5 @@
--- The crate reading is what it was before the standard reading had padding: an object at a place, and the walk (rule
--- 16.2).
+-- The crate reading is what it was before the standard reading had padding: a tag read alone, an object at a place, and
+-- the walk (rule 16.2).
 use Prim.Native.Nat.{ℕ, zero, suc, min, _+_, _≤_}
 use mathlib.Core.Path.{_≡_, refl, sym, ap, _∙_}
 use mathlib.Core.List.{List}
@@ -8,10 +8,13 @@ use native.Mathlib.Omega.{arith}
 use lib.ListN.{length, drop, length-drop}
 use Rattle.basis.specs.Reply.{ok, refused}
 use Rattle.basis.proofs.Reply.{by-reply}
+use Rattle.tlv.specs.Tag.{tagOf, tagAlone}
 use Rattle.tlv.specs.Object.{Item, objectOf, placed, nextOf, sizeOf, objectAt}
 use Rattle.tlv.specs.Walk.{walk}
 use Rattle.tlv.specs.Walk as tlv-walk
 use Rattle.tlv.specs.declared.Reading.the-variants.{Crate}
+use Rattle.tlv.proofs.Zeros.{crate-padding}
+use Rattle.tlv.proofs.Tags.{alone-unpadded}
 use Rattle.tlv.proofs.Within.{crate-item, crate-stop}
 use Rattle.tlv_laws.specs.Unpadded.{walkIn, crateWalk}
 
@@ -26,6 +29,9 @@ same-walk (suc n) a s =
 pub crate-walk : (a : ℕ) (s : List ℕ) → walk Crate a s ≡ crateWalk a s
 unfolding walk crateWalk
 crate-walk a s = same-walk (length s) a s
+
+pub crate-tag : (s : List ℕ) → tagAlone Crate s ≡ tagOf Crate s
+crate-tag s = alone-unpadded Crate s (crate-padding s)
 
 pub crate-object : (s : List ℕ) (a : ℕ) → objectAt Crate s a ≡ placed (min a (length s)) (objectOf Crate (drop a s))
 crate-object s a =

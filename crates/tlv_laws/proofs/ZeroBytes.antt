@@ -11,12 +11,13 @@ use Rattle.basis.specs.Number.{Bytes}
 use Rattle.basis.specs.Reply.{Told, ok, refused}
 use Rattle.basis.proofs.Reply.{by-reply}
 use Rattle.tlv.specs.Padding.{zeros, padding}
-use Rattle.tlv.specs.Object.{Item, Stop, nextOf, sizeOf, moved, objectAt}
+use Rattle.tlv.specs.Object.{objectOf, Item, Stop, placed, nextOf, sizeOf, moved, objectAt}
 use Rattle.tlv.specs.Walk.{walk}
 use Rattle.tlv.specs.Lookup.{Span, part, wholeRecord, seek, Found, follow, lookup}
 use Rattle.tlv.specs.declared.Reading.{Reading}
 use Rattle.tlv.specs.declared.Reading.the-variants.{Standard}
-use Rattle.tlv.proofs.Zeros.{zero-first, zeros-nothing, standard-padding}
+use Rattle.tlv.proofs.Zeros.{zero-first, other-first, zeros-nothing, standard-padding}
+use Rattle.tlv.proofs.Within.{next-after}
 use Rattle.tlv.proofs.Walk.{by-objects, seek-refused, seek-is}
 use Rattle.tlv_laws.specs.Padding.{zeroBytes, movedLookup}
 use Rattle.tlv_laws.proofs.TruthValues.{same-cond, by-test}
@@ -106,3 +107,14 @@ no-zero-tag s i e z = let t = tag-there Standard s i e in zero-not-read (drop (i
 -- so no path with 0 leads to a value
 pub zero-not-found : (s before path : List ℕ) → Bytes s → (p : Found) → lookup Standard s (before ++ (0 ∷ path)) ≡ ok p → ⊥
 zero-not-found = no-tag-found Standard 0 zero-no-tag
+
+-- only 00 is padding: after any other byte, and of no bytes, the next object is the one in front, as before (rule 16.1)
+pub other-byte : (b : ℕ) (s : List ℕ) → (b ≡ 0 → ⊥) → nextOf Standard (b ∷ s) ≡ placed 0 (objectOf Standard (b ∷ s))
+other-byte b s n = next-after Standard (b ∷ s) 0 (sym (standard-padding (b ∷ s) ∙ other-first b s n))
+
+-- a record of zero bytes only: every lookup of a tag is 11 at its end, and no tag matched (rule 16.3)
+pub zeros-lookup-end : (k t : ℕ) (path : List ℕ)
+    → lookup Standard (zeroBytes k) (t ∷ path) ≡ refused (record { number = 11; place = k; matched = 0 })
+unfolding follow
+zeros-lookup-end k t path =
+    rw (take-length (zeroBytes k), seek-refused Standard t 0 (zeroBytes k) _ (next-only Standard (zeroBytes k) (zeros-only k)), zero-bytes k, zero-add)
