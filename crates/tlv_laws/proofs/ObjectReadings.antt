@@ -14,7 +14,7 @@ use Rattle.basis.specs.Reply.{Told, ok, refused}
 use Rattle.basis.proofs.Reply.{All, by-reply, all-is, apart, refused-not-ok}
 use Rattle.tlv.specs.Padding.{zeros, padding}
 use Rattle.tlv.specs.Tag.{Tag, tagOf}
-use Rattle.tlv.specs.Object.{Object, objectOf, Item, Stop, itemAt, placed, nextOf, moved, objectAt}
+use Rattle.tlv.specs.Object.{Object, objectOf, Item, Stop, placed, nextOf, moved, objectAt}
 use Rattle.tlv.specs.declared.Reading.{Reading}
 use Rattle.tlv.specs.declared.Reading.the-variants.{Crate, Standard}
 use Rattle.tlv.proofs.Zeros.{crate-padding, standard-padding}
@@ -37,9 +37,6 @@ differs-long s e =
 
 -- if both readings read a tag there, their numbers differ
 module _ (s : List ℕ) (d : tagDiffers s ≡ true) where
-  two : ℕ
-  two = getD s 0 0 * 256 + getD s 1 0
-
   abbrev TwoOrThree : Tag → Type 0
   TwoOrThree t =
       ((t .size ≡ 2) × (t .number ≡ getD s 0 0 * 256 + getD s 1 0))

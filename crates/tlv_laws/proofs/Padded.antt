@@ -1,24 +1,23 @@
 -- Padding in front of some bytes: they are read as without it, further on (rules 16.1 and 16.3).
-use Prim.Native.Nat.{ℕ, suc, _+_, _-_, _≤_}
+use Prim.Native.Nat.{ℕ, _+_, _-_}
 use mathlib.Core.Path.{_≡_, refl, sym, ap, _∙_}
 use mathlib.Core.List.{List, [], _∷_, _++_}
 use native.Mathlib.Nat.{add-assoc, add-zero}
 use native.Mathlib.Omega.{arith}
 use lib.Dec.{eqb}
 use lib.ListN.{length, drop, drop-of-length-le}
-use lib.Seq.{drop-append-add, drop-append-seam}
+use lib.Seq.{drop-append-add}
 use borrow.Author.Tests.{eqb-true, eqb-false}
 use Rattle.basis.specs.Reply.{Told, Reply, ok, refused}
 use Rattle.basis.proofs.Reply.{by-reply, refused-not-ok}
 use Rattle.tlv.specs.Padding.{zeros, padding}
 use Rattle.tlv.specs.Tag.{tagOf}
-use Rattle.tlv.specs.Object.{Object, objectOf, Item, Stop, itemAt, placed, nextOf, sizeOf, movedItem, movedStop, moved}
+use Rattle.tlv.specs.Object.{Object, objectOf, Item, Stop, placed, nextOf, sizeOf, movedItem, movedStop, moved}
 use Rattle.tlv.specs.Walk.{walk}
 use Rattle.tlv.specs.Lookup.{seek}
 use Rattle.tlv.specs.declared.Reading.{Reading}
 use Rattle.tlv.specs.declared.Reading.the-variants.{Crate, Standard}
 use Rattle.tlv.proofs.Zeros.{zero-first, other-first, padding-once}
-use Rattle.tlv.proofs.Within.{next-after}
 use Rattle.tlv.proofs.Walk.{walk-refused, walk-met}
 use Rattle.tlv_laws.proofs.TruthValues.{by-test}
 

@@ -9,7 +9,6 @@ use native.Mathlib.Omega.{arith}
 use lib.Dec.{eqb}
 use lib.ListN.{length, take, drop, length-take, length-drop, length-append}
 use lib.Seq.{take-take, take-length, take-append-le, drop-at, drop-append-le, drop-append-seam, drop-append-add, drop-drop}
-use borrow.Author.Tests.{eqb-true, eqb-false}
 use Rattle.basis.specs.Reply.{Told, ok, refused}
 use Rattle.basis.proofs.Reply.{by-reply, refused-not-ok}
 use Rattle.basis.proofs.Over.{drop-take}

@@ -1,15 +1,13 @@
 -- The crate reading is what it was before the standard reading had padding: a tag read alone, an object at a place, and
 -- the walk (rule 16.2).
-use Prim.Native.Nat.{ℕ, zero, suc, min, _+_, _≤_}
-use mathlib.Core.Path.{_≡_, refl, sym, ap, _∙_}
+use Prim.Native.Nat.{ℕ, zero, suc, min, _+_}
+use mathlib.Core.Path.{_≡_, refl}
 use mathlib.Core.List.{List}
 use native.Mathlib.Nat.{add-zero}
-use native.Mathlib.Omega.{arith}
-use lib.ListN.{length, drop, length-drop}
-use Rattle.basis.specs.Reply.{ok, refused}
+use lib.ListN.{length, drop}
 use Rattle.basis.proofs.Reply.{by-reply}
 use Rattle.tlv.specs.Tag.{tagOf, tagAlone}
-use Rattle.tlv.specs.Object.{Item, objectOf, placed, nextOf, sizeOf, objectAt}
+use Rattle.tlv.specs.Object.{objectOf, placed, nextOf, sizeOf, objectAt}
 use Rattle.tlv.specs.Walk.{walk}
 use Rattle.tlv.specs.Walk as tlv-walk
 use Rattle.tlv.specs.declared.Reading.the-variants.{Crate}

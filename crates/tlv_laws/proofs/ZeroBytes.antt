@@ -1,11 +1,11 @@
 -- Zero bytes in front of a record move what the standard reading reads, and nothing else (rules 16.1 to 16.6).
 use Prim.Native.Nat.{ℕ, zero, suc, _+_, _≤_}
 use mathlib.Core.Path.{_≡_, refl, sym, ap, _∙_}
-use mathlib.Core.List.{List, [], _∷_, _++_, append-nil}
+use mathlib.Core.List.{List, [], _∷_, _++_}
 use native.Mathlib.Nat.{add-assoc, add-zero, zero-add, min-eq-left}
 use native.Mathlib.Omega.{arith}
 use lib.Dec.{eqb}
-use lib.ListN.{length, take, drop, length-append}
+use lib.ListN.{length, drop, length-append}
 use lib.Seq.{take-length, drop-at, drop-append-add}
 use Rattle.basis.specs.Number.{Bytes}
 use Rattle.basis.specs.Reply.{Told, ok, refused}
@@ -13,14 +13,14 @@ use Rattle.basis.proofs.Reply.{by-reply}
 use Rattle.tlv.specs.Padding.{zeros, padding}
 use Rattle.tlv.specs.Object.{objectOf, Item, Stop, placed, nextOf, sizeOf, moved, objectAt}
 use Rattle.tlv.specs.Walk.{walk}
-use Rattle.tlv.specs.Lookup.{Span, part, wholeRecord, seek, Found, follow, lookup}
+use Rattle.tlv.specs.Lookup.{Span, part, seek, Found, follow, lookup}
 use Rattle.tlv.specs.declared.Reading.{Reading}
 use Rattle.tlv.specs.declared.Reading.the-variants.{Standard}
 use Rattle.tlv.proofs.Zeros.{zero-first, other-first, zeros-nothing, standard-padding}
 use Rattle.tlv.proofs.Within.{next-after}
 use Rattle.tlv.proofs.Walk.{by-objects, seek-refused, seek-is}
 use Rattle.tlv_laws.specs.Padding.{zeroBytes, movedLookup}
-use Rattle.tlv_laws.proofs.TruthValues.{same-cond, by-test}
+use Rattle.tlv_laws.proofs.TruthValues.{by-test}
 use Rattle.tlv_laws.proofs.Padded.{next-only, next-padded, walk-padded, seek-padded}
 use Rattle.tlv_laws.proofs.Boundary.{tag-there, zero-not-read, zero-no-tag, no-tag-found}
 

@@ -1,6 +1,6 @@
 -- The walk in the crate reading as it was before request 3, which gave the standard reading its padding (rule 16.2).
 use Prim.Native.Nat.{ℕ, zero, suc, _+_}
-use mathlib.Core.List.{List, [], _∷_}
+use mathlib.Core.List.{List, []}
 use lib.ListN.{length, drop}
 use Rattle.basis.specs.Reply.{Reply, ok, refused}
 use Rattle.tlv.specs.Object.{Object, objectOf, itemAt}

@@ -1,6 +1,6 @@
 use borrow.Author.Needs.{needs}
 use native.Mathlib.Omega.{arith}
-use mathlib.Core.Path.{_≡_, sym, ap}
+use mathlib.Core.Path.{sym, ap}
 use lib.Dec.{leb}
 use Rattle.tlv.proofs.Zeros.{zeros-by-first, zeros-of-none}
 use Rattle.tlv.proofs.padding.starts_zero.Statement.{statement}
