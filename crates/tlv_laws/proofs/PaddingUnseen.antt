@@ -1,5 +1,6 @@
--- Zero bytes between the objects of a record or of an entered value, before the first or after the last, change neither
--- the value that a lookup shows, nor the number of its refusal, nor how many tags matched (rule 16.8).
+-- Zero bytes between the objects of a record or of a value, before the first or after the last: a lookup that goes on
+-- into that part by one tag or more shows the same value, or the same number of a refusal, and as many tags match (rule
+-- 16.8). The part itself, which a path that ends there shows, has the zero bytes.
 use Prim.Native.Nat.{ℕ, _+_, _-_, _≤_}
 use mathlib.Core.Path.{_≡_, refl, sym, ap, _∙_}
 use mathlib.Core.Logic.{inl, inr}
