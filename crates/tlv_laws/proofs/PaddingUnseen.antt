@@ -1,18 +1,17 @@
 -- Zero bytes between the objects of a record or of a value, before the first or after the last: a lookup that goes on
 -- into that part by one tag or more shows the same value, or the same number of a refusal, and as many tags match (rule
 -- 16.8). The part itself, which a path that ends there shows, has the zero bytes.
-use Prim.Native.Nat.{ℕ, _+_, _-_, _≤_}
+use Prim.Native.Nat.{ℕ, _+_}
 use mathlib.Core.Path.{_≡_, refl, sym, ap, _∙_}
 use mathlib.Core.Logic.{inl, inr}
 use mathlib.Core.List.{List, [], _∷_, _++_}
 use native.Mathlib.Nat.{add-zero, zero-add}
 use native.Mathlib.Omega.{arith}
 use lib.Dec.{eqb}
-use lib.ListN.{length, take, drop, length-take, length-drop, length-append}
-use lib.Seq.{take-take, take-length, take-append-le, drop-at, drop-append-le, drop-append-seam, drop-append-add, drop-drop}
+use lib.ListN.{length, take, drop, length-drop, length-append}
+use lib.Seq.{take-length, take-append-le, drop-at, drop-append-le, drop-append-seam, drop-append-add, drop-drop}
 use Rattle.basis.specs.Reply.{Told, ok, refused}
 use Rattle.basis.proofs.Reply.{by-reply, refused-not-ok}
-use Rattle.basis.proofs.Over.{drop-take}
 use Rattle.tlv.specs.Padding.{padding}
 use Rattle.tlv.specs.Object.{Item, Stop, nextOf, sizeOf}
 use Rattle.tlv.specs.Walk.{Walk, walk}
@@ -21,6 +20,7 @@ use Rattle.tlv.specs.declared.Reading.{Reading}
 use Rattle.tlv.specs.declared.Reading.the-variants.{Standard}
 use Rattle.tlv.proofs.Within.{next-inside}
 use Rattle.tlv.proofs.Walk.{next-nothing, walk-refused, walk-met, by-objects, seek-is, seek-inside}
+use Rattle.tlv.proofs.Entered.{movedSpan, seek-moved, part-part}
 use Rattle.tlv_laws.specs.Padding.{zeroBytes, Value, Refusal, shown}
 use Rattle.tlv_laws.proofs.TruthValues.{by-test}
 use Rattle.tlv_laws.proofs.FrontOfBytes.{next-front}
@@ -28,15 +28,7 @@ use Rattle.tlv_laws.proofs.Padded.{walk-padded, seek-padded}
 use Rattle.tlv_laws.proofs.Boundary.{refused-where}
 use Rattle.tlv_laws.proofs.AfterMatch.{follow-append}
 use Rattle.tlv_laws.proofs.Place.{value-matched}
-use Rattle.tlv_laws.proofs.ZeroBytes.{zero-bytes, zeros-only, movedSpan, seek-moved}
-
--- a part of a part is a part of the record
-part-part : (s : List ℕ) (p q : Span) → q .at + q .len ≤ length (part s p)
-    → part s (record { at = p .at + q .at; len = q .len }) ≡ part (part s p) q
-part-part s p q h =
-    let short : q .len ≤ p .len - q .at = omega (arith, h, length-take (p .len) (drop (p .at) s)) in
-    sym (ap (take (q .len)) (drop-take (q .at) (p .len) (drop (p .at) s) ∙ rw (drop-drop (q .at) (p .at) s))
-    ∙ take-take (q .len) (p .len - q .at) (drop (p .at + q .at) s) short)
+use Rattle.tlv_laws.proofs.ZeroBytes.{zero-bytes, zeros-only}
 
 -- a search from place 0 on, in bytes that stand at place a
 seek-from : (r : Reading) (t a : ℕ) (s : List ℕ) → seek r t a s ≡ movedSpan a (seek r t 0 s)

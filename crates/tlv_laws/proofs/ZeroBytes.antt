@@ -4,23 +4,22 @@ use mathlib.Core.Path.{_≡_, refl, sym, ap, _∙_}
 use mathlib.Core.List.{List, [], _∷_, _++_}
 use native.Mathlib.Nat.{add-assoc, add-zero, zero-add, min-eq-left}
 use native.Mathlib.Omega.{arith}
-use lib.Dec.{eqb}
 use lib.ListN.{length, drop, length-append}
 use lib.Seq.{take-length, drop-at, drop-append-add}
 use Rattle.basis.specs.Number.{Bytes}
 use Rattle.basis.specs.Reply.{Told, ok, refused}
 use Rattle.basis.proofs.Reply.{by-reply}
 use Rattle.tlv.specs.Padding.{zeros, padding}
-use Rattle.tlv.specs.Object.{objectOf, Item, Stop, placed, nextOf, sizeOf, moved, objectAt}
+use Rattle.tlv.specs.Object.{objectOf, Item, Stop, placed, nextOf, moved, objectAt}
 use Rattle.tlv.specs.Walk.{walk}
 use Rattle.tlv.specs.Lookup.{Span, part, seek, Found, follow, lookup}
 use Rattle.tlv.specs.declared.Reading.{Reading}
 use Rattle.tlv.specs.declared.Reading.the-variants.{Standard}
 use Rattle.tlv.proofs.Zeros.{zero-first, other-first, zeros-nothing, standard-padding}
 use Rattle.tlv.proofs.Within.{next-after}
-use Rattle.tlv.proofs.Walk.{by-objects, seek-refused, seek-is}
+use Rattle.tlv.proofs.Walk.{seek-refused}
+use Rattle.tlv.proofs.Entered.{movedSpan, seek-moved}
 use Rattle.tlv_laws.specs.Padding.{zeroBytes, movedLookup}
-use Rattle.tlv_laws.proofs.TruthValues.{by-test}
 use Rattle.tlv_laws.proofs.Padded.{next-only, next-padded, walk-padded, seek-padded}
 use Rattle.tlv_laws.proofs.Boundary.{tag-there, zero-not-read, zero-no-tag, no-tag-found}
 
@@ -63,20 +62,7 @@ pub zeros-end : (k : ℕ) → objectAt Standard (zeroBytes k) 0 ≡ refused (rec
 zeros-end k =
     rw (min-eq-left {n = 0} {m = length (zeroBytes k)} (omega arith), next-only Standard (zeroBytes k) (zeros-only k), zero-bytes k, zero-add)
 
--- a search in bytes that start k bytes further on
-abbrev pub movedSpan : ℕ → Told Stop Span → Told Stop Span
-movedSpan k (ok q) = ok (record { at = k + q .at; len = q .len })
-movedSpan k (refused e) = refused (record { number = e .number; place = k + e .place })
-
-pub seek-moved : (r : Reading) (t k a : ℕ) (s : List ℕ) → seek r t (k + a) s ≡ movedSpan k (seek r t a s)
-seek-moved r t k =
-    by-objects r (λ a s. seek r t (k + a) s ≡ movedSpan k (seek r t a s))
-    (λ a s e h. rw (seek-refused r t (k + a) s e h, seek-refused r t a s e h, add-assoc))
-    (λ a s i e w deeper.
-    rw (seek-is r t (k + a) s i e, seek-is r t a s i e) (by-test (eqb (i .tag) t) (λ g. rw (g, add-assoc)) (λ g.
-    rw (g, add-assoc k a (sizeOf i)) deeper)))
-
--- the same of a path, in bytes s that stand after others
+-- a path in bytes s that stand after others
 module _ (r : Reading) (x s : List ℕ) where
   follow-moved : (m : ℕ) (p : Span) (path : List ℕ)
       → follow r (x ++ s) m (record { at = length x + p .at; len = p .len }) path ≡ movedLookup (length x) (follow r s m p path)

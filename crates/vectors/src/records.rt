@@ -7,7 +7,7 @@ use tlv::get_data_object;
 use tlv::value;
 
 // Prints where a lookup was refused, and how many tags matched.
-fn show_refusal(refusal: &[u8], place: usize, matched: usize, expected: &[u8]) -> usize {
+pub(crate) fn show_refusal(refusal: &[u8], place: usize, matched: usize, expected: &[u8]) -> usize {
     let at = report::number(expected, 0, refusal, place);
     report::number(expected, at, b" matched ", matched)
 }
@@ -20,7 +20,21 @@ fn show_bytes(value: &[u8], expected: &[u8], at: usize) -> usize {
     report::hex(expected, report::word(expected, at, b" "), value)
 }
 
-// Prints what a lookup finds: the place, the length and the bytes of the value, and how many tags matched.
+// Prints the place and the length of a value, how many tags matched, and the bytes of the value.
+pub(crate) fn show_value(
+    place: usize,
+    len: usize,
+    matched: usize,
+    value: &[u8],
+    expected: &[u8],
+) -> usize {
+    let at = report::number(expected, 0, b"at ", place);
+    let at = report::number(expected, at, b" length ", len);
+    let at = report::number(expected, at, b" matched ", matched);
+    show_bytes(value, expected, at)
+}
+
+// Prints what a lookup finds.
 fn show_lookup(reading: Reading, record: &[u8], path: &[u32], expected: &[u8]) -> usize {
     match get_data_object(reading, record, path) {
         GetDataObject::End(place, matched) => {
@@ -30,10 +44,8 @@ fn show_lookup(reading: Reading, record: &[u8], path: &[u32], expected: &[u8]) -
             show_refusal(b"refusal 12 at ", place, matched, expected)
         }
         GetDataObject::Value(place, len, matched) => {
-            let at = report::number(expected, 0, b"at ", place);
-            let at = report::number(expected, at, b" length ", len);
-            let at = report::number(expected, at, b" matched ", matched);
-            show_bytes(value(reading, record, path), expected, at)
+            let bytes = value(reading, record, path);
+            show_value(place, len, matched, bytes, expected)
         }
     }
 }
@@ -55,9 +67,12 @@ fn show_both_readings(line: &[u8], record: &[u8], path: &[u32]) {
     );
 }
 
-// The tags of a path, whose last one has this number.
-fn path<'a>(tags: &'a [u32; 8], last: usize) -> &'a [u32] {
+// The tags of a path, which was read from this text and whose last tag has this number. No text is the empty path.
+pub(crate) fn path<'a>(tags: &'a [u32; 8], last: usize, text: &[u8]) -> &'a [u32] {
     let all = &tags[..];
+    if text.len() == 0 {
+        return &all[..0];
+    }
     if last < all.len() {
         let end = last + 1;
         return &all[0..end];
@@ -65,16 +80,12 @@ fn path<'a>(tags: &'a [u32; 8], last: usize) -> &'a [u32] {
     all
 }
 
-// Looks up the path of a line in its record. A line without a path asks for the empty path.
+// Looks up the path of a line in its record.
 fn look_up_line(line: &[u8], record: &[u8]) {
     let tag_field = text::field(line, 3);
     let mut tags = [0u32; 8];
     let last = text::numbers(tag_field, false, &mut tags);
-    if tag_field.len() == 0 {
-        show_both_readings(line, record, &tags[..0]);
-    } else {
-        show_both_readings(line, record, path(&tags, last));
-    }
+    show_both_readings(line, record, path(&tags, last, tag_field));
 }
 
 // A line: record; name; bytes; path; expected; expected by the standard.

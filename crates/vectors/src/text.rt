@@ -111,3 +111,51 @@ pub(crate) fn numbers(text: &[u8], decimal: bool, out: &mut [u32; 8]) -> usize {
     }
     n
 }
+
+// Copies bytes to a place, if they fit there, and returns the place after them.
+fn append(more: &[u8], out: &mut [u8], at: usize) -> usize {
+    if at <= out.len() {
+        if more.len() <= out.len() - at {
+            bytes::copy(more, &mut out[at..]);
+            return at + more.len();
+        }
+    }
+    at
+}
+
+// Copies bytes so many times, one after the other from a place, and returns the place after them.
+fn append_times(more: &[u8], times: u32, out: &mut [u8], start: usize) -> usize {
+    let mut at = start;
+    let mut i = 0;
+    while i < times {
+        at = append(more, out, at);
+        i += 1;
+    }
+    at
+}
+
+// Reads bytes with a number of times, as C100 x 255, or without one, to a place, and returns the place after them.
+fn hex_part(text: &[u8], out: &mut [u8], at: usize) -> usize {
+    let end = bytes::scan::find(text, 0, text.len(), b' ');
+    let mut space = [0u8; 600];
+    let n = hex(part(text, 0, end), &mut space);
+    let read = part(&space, 0, n);
+    if end == text.len() {
+        return append(read, out, at);
+    }
+    let mut times = [0u32; 8];
+    numbers(&text[end..], true, &mut times);
+    append_times(read, times[0], out, at)
+}
+
+// Reads long bytes: parts with commas between them, as C100 x 255, 5F. Returns how many there are.
+pub(crate) fn long_hex(text: &[u8], out: &mut [u8]) -> usize {
+    let mut at = 0;
+    let mut from = 0;
+    while from < text.len() {
+        let end = bytes::scan::find(text, from, text.len(), b',');
+        at = hex_part(&text[from..end], out, at);
+        from = end + 2;
+    }
+    at
+}

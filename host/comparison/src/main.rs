@@ -29,6 +29,7 @@ mod call;
 mod class;
 mod collect;
 mod command;
+mod guarded;
 mod hex;
 mod jobs;
 mod lent;
@@ -41,6 +42,7 @@ mod response;
 mod splitter;
 mod tally;
 mod tlv;
+mod tlv_index;
 
 use std::{env, fs, process, thread};
 
@@ -51,12 +53,13 @@ use crate::recording::Recording;
 use crate::tally::Tally;
 
 /// The jobs of the short run. Those that take longest are first.
-const SHORT_RUN: [Job; 9] = [
+const SHORT_RUN: [Job; 10] = [
     tlv::compare,
     splitter::compare,
     builder::compare,
     command::compare,
     reassembler::compare,
+    tlv_index::compare,
     collect::compare,
     response::compare,
     aid::compare,
@@ -64,13 +67,14 @@ const SHORT_RUN: [Job; 9] = [
 ];
 
 /// The kinds of random cases. There are equally many of each kind.
-const RANDOM_KINDS: [(&str, Job); 12] = [
+const RANDOM_KINDS: [(&str, Job); 13] = [
     ("class and AID", class_and_aid),
     ("command, parsed and owned", command::random_cases),
     ("command, extended", command::random_extensions),
     ("records, read", tlv::random_cases),
     ("records with zero bytes between objects, read", tlv::random_zeros),
     ("records, written", tlv::random_writing),
+    ("records, read through an index", tlv_index::random_cases),
     ("command, built", builder::random_cases),
     ("command, one step of splitting", splitter::random_step),
     ("command, cut into a chain", splitter::random_chain),
@@ -99,7 +103,7 @@ const RECORDED: [(usize, Job); 15] = [
 ];
 
 /// What is timed, in the order of the lines.
-const TIMED: [fn(&mut Table); 9] = [
+const TIMED: [fn(&mut Table); 10] = [
     class::bench,
     aid::bench,
     command::bench,
@@ -109,6 +113,7 @@ const TIMED: [fn(&mut Table); 9] = [
     response::bench,
     collect::bench,
     tlv::bench,
+    tlv_index::bench,
 ];
 
 fn class_and_aid(tally: &mut Tally, random: &mut Random) {
@@ -134,7 +139,7 @@ fn options(words: &[&str]) -> Option<Options> {
 fn compare(options: &Options) -> bool {
     println!("seed {}, random cases asked for {}", options.seed, options.cases);
     let results = jobs::run(options, &SHORT_RUN, &RANDOM_KINDS);
-    let failed = results.print(tlv::required_replies());
+    let failed = results.print(tlv::required_replies().chain(tlv_index::required_replies()));
     #[cfg(feature = "coverage")]
     let failed = branches::print(&results.branches, results.least()) || failed;
     failed

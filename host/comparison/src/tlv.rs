@@ -9,8 +9,8 @@ mod document_cases;
 mod labels;
 mod lookup;
 mod model;
-mod records;
-mod rust_walk;
+pub mod records;
+pub mod rust_walk;
 mod take;
 mod writing;
 mod zeros;
@@ -21,10 +21,12 @@ use gorvisclen::{CRATE_READING, LEN_NUMBERS, LOOKUP_NUMBERS, OBJECT_NUMBERS, STA
 
 pub use self::benchmark::bench;
 pub use self::labels::required as required_replies;
-use self::lookup::{find, value, Lookup};
+use self::lookup::value;
+pub use self::lookup::{find, rust_tag, Lookup};
 use self::records::{
     in_templates, length_forms, long_record, no_tag, random_paths, random_record, unreadable_at, Record,
 };
+pub use self::take::check_model;
 use self::take::{places_past_end, Len, Object, Tag, Take};
 pub use self::writing::{every_boundary as every_written_boundary, random_cases as random_writing};
 pub use self::zeros::random_cases as random_zeros;

@@ -3,8 +3,8 @@
 //!
 //! Every function replies to every input: `Ok`, or `Err` with the number of a refusal. A refusal changes no lent
 //! memory, except for 18 (see `command_extend`), and for 11 and 12 of an object and of a lookup, which tell where they
-//! happened (see `take_data_object`, `get_data_object` and `value`). Lent memory before and after the numbers or bytes
-//! that are written does not change.
+//! happened (see `take_data_object`, `get_data_object`, `value` and `get_indexed`). Lent memory before and after the
+//! numbers or bytes that are written does not change.
 //!
 //! | No. | Replied exactly when |
 //! |---|---|
@@ -19,16 +19,18 @@
 //! | 13 | the data of the command to build are above 65,535 bytes |
 //! | 14 | splitting one step: a buffer under 4, or no room for data in it; a chain: a buffer under 10 |
 //! | 15 | extended length is forced, but unsupported |
-//! | 16 | a buffer for the answer is too short; an object or a command to write does not fit from the given place |
+//! | 16 | a buffer for the answer is too short; an object, a command or an index does not fit from the given place |
 //! | 17 | the piece does not continue the open chain |
 //! | 18 | the held data and the new data together exceed the room |
 //! | 19 | the value to write is above 65,535 bytes |
 //! | 21 | standard reading: the command has an extended Lc of zero and an Le |
 //! | 22 | the response is under two bytes |
 //! | 23 | the collected data and the new data together exceed the room |
+//! | 24 | the record to index is above 65,535 bytes, or more than 255 objects can be read at its top level |
+//! | 25 | the index has another form, or the entry that a lookup uses lies outside of the record |
 //!
-//! If several apply, the smallest is replied. But 2 comes after 3, 4 and 5, and 16 comes after 19 when an object is
-//! written.
+//! If several apply, the smallest is replied. But 2 comes after 3, 4 and 5, 16 comes after 19 when an object is
+//! written, and 16 of the buffer comes after 24 when an index is written.
 
 mod aid;
 mod builder;
@@ -39,6 +41,7 @@ mod reassembler;
 mod response;
 mod splitter;
 mod tlv;
+mod tlv_index;
 
 pub use aid::{aid, aid_matches, aid_part, aid_whole, AID_NUMBERS};
 pub use builder::{
@@ -58,6 +61,7 @@ pub use tlv::{
     get_data_object, put_data_object, take_data_object, take_len, take_tag, value, LEN_NUMBERS, LOOKUP_NUMBERS,
     OBJECT_NUMBERS, TAG_NUMBERS,
 };
+pub use tlv_index::{build_index, check_index, get_indexed, INDEX_BYTES, INDEX_NUMBERS};
 
 /// The number of a refusal.
 #[derive(Clone, Copy, Debug, PartialEq, Eq)]

@@ -1,0 +1,3 @@
+-- One reply of each exported function of an index, and the laws of their proofs.
+pub mod Building
+pub mod OneReply

@@ -1,0 +1,2 @@
+-- What the exported functions of an index tell a host program.
+pub mod Told
