@@ -2,7 +2,7 @@
 //! are listed, and the levels below the first. A lookup through a record's own index must be the full lookup, that of
 //! the Rust and that of the library; and no byte of the record may alter it but those of the entry that is used.
 //! `building.rs` has records around the limits, `files.rs` has files that are no index, and `entries.rs` those whose
-//! entries do not fit the record. The file, the record and the path of a lookup are between guards (`guarded.rs`).
+//! entries do not fit the record. The file, the record and the path are between guards (`guarded.rs`).
 
 mod benchmark;
 mod building;

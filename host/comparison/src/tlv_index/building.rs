@@ -6,6 +6,7 @@ use gorvisclen::INDEX_BYTES;
 use super::model;
 use super::operations::{build, own_index, Indexed};
 use crate::call::Call;
+use crate::guarded::with_guards;
 use crate::lent::places_past;
 use crate::loops::{pairs, triples};
 use crate::random::Random;
@@ -66,17 +67,22 @@ fn around_the_end(tally: &mut Tally, record: &[u8], before: usize) {
     }
 }
 
-/// The index of a record in a buffer that it fits, and often in others.
+/// The index of a record in a buffer that it fits, and often in others. The record is right before a guard, or right
+/// after one.
 pub fn built(tally: &mut Tally, random: &mut Random, record: &[u8]) {
     let (before, need) = (random.below(4), need(record));
-    build(record, before).compare(tally, before + need + random.below(3), 1 + random.below(4));
-    match random.below(6) {
-        0 => build(record, before).compare(tally, before + need + random.below(3), 0),
-        1 => build(record, before).compare(tally, before + need - 1, 1),
-        2 => build(record, before).compare(tally, random.below(before + need + 1), random.below(3)),
-        3 => build(record, random.one_of(&places_past(before, need))).compare(tally, before + need, 1),
-        _ => (),
-    }
+    let (exact, at_end) = (before + need, random.below(4) > 0);
+    with_guards(|[here, ..]| {
+        let record = here.copy(record, at_end);
+        build(record, before).compare(tally, exact + random.below(3), 1 + random.below(4));
+        match random.below(6) {
+            0 => build(record, before).compare(tally, exact + random.below(3), 0),
+            1 => build(record, before).compare(tally, exact - 1, 1),
+            2 => build(record, before).compare(tally, random.below(exact + 1), random.below(3)),
+            3 => build(record, random.one_of(&places_past(before, need))).compare(tally, exact, 1),
+            _ => (),
+        }
+    });
 }
 
 /// Paths to objects that an index lists: to the first, to the last and to others, and one that is missing; each as it

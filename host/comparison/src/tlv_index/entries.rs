@@ -2,8 +2,7 @@
 //! it. Only the entry that is used counts: the first with the tag, or the end.
 
 use super::model::{End, Entry, Index};
-use super::operations::{check, Indexed};
-use crate::call::Call;
+use super::operations::{check_guarded, Indexed};
 use crate::loops::{pairs, triples};
 use crate::random::Random;
 use crate::tally::Tally;
@@ -23,7 +22,7 @@ const ABSURD: [Entry; 3] = [
 /// Looks up paths through the file of an index.
 fn lookups(tally: &mut Tally, random: &mut Random, index: &Index, record: &[u8], paths: &[&[u32]]) {
     let file = index.file();
-    check(&file).compare_numbers(tally, 1);
+    check_guarded(tally, random, &file, 1);
     for path in paths {
         Indexed::new(&file, record, path).compare(tally, random);
     }

@@ -5,8 +5,7 @@
 use std::iter;
 
 use super::model::{self, file_of, End, Entry, Index, Section};
-use super::operations::{check, Indexed};
-use crate::call::Call;
+use super::operations::{check_guarded, Indexed};
 use crate::loops::{pairs, triples};
 use crate::random::Random;
 use crate::tally::Tally;
@@ -42,9 +41,10 @@ pub fn paths_of(record: &[u8]) -> Vec<Vec<u32>> {
 
 /// A file: its form, with `out` of a random length, and lookups through it.
 pub fn read(tally: &mut Tally, random: &mut Random, file: &[u8], record: &[u8], paths: &[Vec<u32>]) {
-    check(file).compare_numbers(tally, 1 + random.below(4));
+    let out_len = 1 + random.below(4);
+    check_guarded(tally, random, file, out_len);
     if random.below(4) == 0 {
-        check(file).compare_numbers(tally, 0);
+        check_guarded(tally, random, file, 0);
     }
     for path in paths {
         Indexed::new(file, record, path).compare(tally, random);
@@ -207,7 +207,7 @@ fn every_short_file(tally: &mut Tally, random: &mut Random) {
         match model::read(&file) {
             Ok(_) => read(tally, random, &file, &[0x01; 260], &path),
             // Those of another form are many: not all of them are checked.
-            Err(_) if number % 5 == 0 => check(&file).compare_numbers(tally, 1),
+            Err(_) if number % 5 == 0 => check_guarded(tally, random, &file, 1),
             Err(_) => (),
         }
     }

@@ -97,6 +97,12 @@ pub fn check(file: &[u8]) -> impl Call<INDEX_NUMBERS> + '_ {
     .labelled_by(|_, _, answer| answer.is_err().then_some((NOT_FORMED, &[])))
 }
 
+/// The form of a file that stands right before a guard, or right after one; `out` has room for so many numbers.
+pub fn check_guarded(tally: &mut Tally, random: &mut Random, file: &[u8], out_len: usize) {
+    let at_end = random.below(4) > 0;
+    with_guards(|[here, ..]| check(here.copy(file, at_end)).compare_numbers(tally, out_len));
+}
+
 /// A lookup through an index: the file, the record and the path.
 #[derive(Clone, Copy, Debug)]
 pub struct Indexed<'a> {
