@@ -22,12 +22,20 @@
 --     objects, and for no other; what is built is the record's walk
 --   value-used, value-past, end-used, end-past, only-25 (Used): 25 if the value of the entry used, or the place of the
 --     end if none is used, lies outside of the record, and else never; empty-path: never for the empty path
--- The same of the operations, and with the numbers of request 4 written out (Operations), so that no number can be
--- wrong in two definitions alike:
+-- The same with the numbers of request 4 written out, so that no number can be wrong in two definitions alike
+-- (Operations, FileBytes):
 --   through-file, no-form: the form is checked first, for every path; file-unseen: what rule 17.12 says, of any file
---   crate-long, crate-many: the other half of crate-24; plain-read, plain-counts, plain-file, file-length,
---     file-parts-of-two: 255 entries, 7n + 12 bytes, the four counts, 11 and 12, the widths
+--   crate-long, crate-many: the other half of crate-24; plain-read, plain-file, file-length, file-parts-of-two: 255
+--     entries, 7n + 12 bytes, 11 and 12, the widths; plain-counts, plain-entry, plain-end: each byte of a file
 --   build-written, build-refused: what `build_index` replies, 24 before 16; get-refused: what `get_indexed` refuses
+-- The same of the promises of the operations, with their answers (Promises), so that no promise can say another thing
+-- than the definitions that it cites:
+--   check-entries, check-no-form: what `check_index` answers to any file
+--   build-content: what `build_index` leaves in the buffer, before, in and after the file
+--   get-no-form, get-empty, get-value, get-end-inside, get-unreadable-inside, get-past, get-end, get-unreadable,
+--     get-end-past: what `get_indexed` answers to any file, record and path; one of them applies to each
+--   same-value, same-end, same-unreadable: through the record's own index it is the answer of `get_data_object`;
+--     get-unseen: what rule 17.12 says
 -- Tests of these statements (must-fail, definitions): entry_used_whatever_stands_before, fits_with_256_entries,
 -- fits_tags_of_two_bytes_only.
 pub mod Used
@@ -35,4 +43,6 @@ pub mod Lookups
 pub mod Files
 pub mod Encoded
 pub mod Built
+pub mod FileBytes
 pub mod Operations
+pub mod Promises

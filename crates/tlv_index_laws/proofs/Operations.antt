@@ -18,13 +18,11 @@ use Rattle.tlv.specs.Lookup.{part}
 use Rattle.tlv.specs.declared.Reading.the-variants.{Crate}
 use Rattle.tlv_laws.proofs.TruthValues.{by-test}
 use Rattle.tlv_index.specs.Index.{Kind, crateKind, Entry, Index, entryOf, built}
-use Rattle.tlv_index.specs.File.{fields, section, endSection, fileOf, field, lengthsCount, endCount, indexIn, decoded}
+use Rattle.tlv_index.specs.File.{fields, section, endSection, fileOf, decoded}
 use Rattle.tlv_index.specs.Build.{written, build-index-is}
 use Rattle.tlv_index.specs.Lookup.{through, indexed, get-indexed-is}
 use Rattle.tlv_index.specs.declared.build.BuildIndex.the-variants.{Written, Refused}
 use Rattle.tlv_index.specs.declared.lookup.GetIndexed.the-variants as get
-use Rattle.tlv_index.proofs.Fields.{field-two}
-use Rattle.tlv_index.proofs.Files.{length-entries, counts-parts, end-parts, file-parts}
 use Rattle.tlv_index.proofs.Builds.{built-long, built-many}
 use Rattle.tlv_index.proofs.Sections.{length-file}
 use Rattle.tlv_index_laws.specs.Used.{Others, Uses}
@@ -32,7 +30,7 @@ use Rattle.tlv_index_laws.proofs.Used.{used-or-none, only-25}
 use Rattle.tlv_index_laws.proofs.Lookups.{built-says, only-24, value-alone, end-alone}
 use Rattle.tlv_index_laws.specs.Fits.{EntryFits, Fits}
 use Rattle.tlv_index_laws.proofs.Files.{file-read}
-use Rattle.tlv_index_laws.proofs.Encoded.{decoded-says, file-again, read-fits, no-file}
+use Rattle.tlv_index_laws.proofs.Encoded.{file-again, read-fits, no-file}
 use Rattle.tlv_index_laws.proofs.Built.{written-says}
 
 -- the form is checked first, for every path: 25 for other bytes, else the lookup through the index in the file
@@ -82,27 +80,6 @@ pub plain-read : (f : List ℕ) (x : Index) → ((i : ℕ) → getD f i 0 < 256)
 plain-read f x small g =
     let h = read-fits 2 f small x g in
     (omega (arith, h .few), ap length (sym (file-again 2 f small x g)) ∙ file-length x, h .reason)
-
--- the four counts of a file, byte by byte
-abbrev two : List ℕ → ℕ → ℕ
-two f a = getD f a 0 * 256 + getD f (a + 1) 0
-
-pub plain-counts : (f : List ℕ) (x : Index) (n : ℕ) → length (x .entries) ≡ n → decoded 2 f ≡ ok x
-    → (two f 0 ≡ n) × (two f (2 + 3 * n) ≡ n) × (two f (4 + 5 * n) ≡ n) × (two f (6 + 7 * n) ≡ 1)
-unfolding indexIn
-plain-counts f x n h g =
-    let d = decoded-says 2 f x g in
-    let m = field 2 0 f in
-    let same : n ≡ m = sym h ∙ ap (λ (y : Index). length (y .entries)) (d .1) ∙ length-entries 2 m f m 0 in
-    let form = file-parts 2 n f same (d .0) in
-    let counts = counts-parts 2 n f (form .2) in
-    let third : 4 + 5 * n ≡ lengthsCount 2 n = omega arith in
-    let fourth : 6 + 7 * n ≡ endCount 2 n = omega arith in (
-      sym (field-two f 0 (omega (arith, form .1))) ∙ sym same,
-      sym (field-two f (2 + 3 * n) (omega (arith, form .1))) ∙ counts .0,
-      sym (field-two f (4 + 5 * n) (omega (arith, form .1))) ∙ ap (λ (a : ℕ). field 2 a f) third ∙ counts .1,
-      sym (field-two f (6 + 7 * n) (omega (arith, form .1))) ∙ ap (λ (a : ℕ). field 2 a f) fourth ∙ end-parts 2 n f (counts .2) .0,
-    )
 
 pub plain-file : (x : Index) → length (x .entries) ≤ 255 → Every (λ e. (e .tag < 16777216) × (e .at < 65536) × (e .len < 65536)) (x .entries)
     → (x .stop .number ≡ 11) ⊎ (x .stop .number ≡ 12) → x .stop .place < 65536 → decoded 2 (fileOf 2 x) ≡ ok x

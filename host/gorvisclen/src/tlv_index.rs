@@ -30,12 +30,13 @@ exported! {
 
     /// Looks up the value at a path of tags through an index, in the 3 numbers of `get_data_object`. If `file` is the
     /// index of `record`, reply and numbers are those of `get_data_object` in the crate's reading. No byte of `record`
-    /// is read outside of the value of the entry that is used: the first one in `file` with the first tag of the path.
-    /// In that value the other tags are looked up. If no entry has the tag, the end's entry is used: the reply is its
-    /// reason, with its place. An empty path gives the whole record, and uses no entry. A record of any length will do.
-    /// Refusals: 25 if `file` has another form, or if the entry that is used lies outside of `record`: the sum of its
-    /// place and length, or the place of the end, is greater than the length of `record`; 11, 12 and 16 as for
-    /// `get_data_object`. With 11 and 12 the 3 numbers are written too. If `out` is too short, nothing is written, and
-    /// 11 and 12 are replied before 16, but 25 is not.
+    /// is read outside of the value of the entry that is used: the first one in `file` with the first number of the
+    /// path, also if that number is no tag. In that value the other tags are looked up. If no entry has the number, the
+    /// end's entry is used: the reply is its reason, with its place. An empty path gives the whole record, and uses no
+    /// entry. A record of any length will do.
+    /// Refusals: 25 if `file` has another form, for every path; 25 if the entry that is used lies outside of `record`:
+    /// the sum of its place and length, or the place of the end, is greater than the length of `record`; 11, 12 and 16
+    /// as for `get_data_object`. With 11 and 12 the 3 numbers are written too. If `out` is too short, nothing is
+    /// written, and 11 and 12 are replied before 16, but 25 is not.
     fn get_indexed(file: bytes, record: bytes, path: tags, out: numbers);
 }
