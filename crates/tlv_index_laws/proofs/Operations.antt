@@ -7,7 +7,7 @@ use native.Mathlib.Decide.{decLe}
 use native.Mathlib.Omega.{arith}
 use borrow.Author.Tests.{ltb-true}
 use lib.Dec.{ltb}
-use lib.ListN.{length, getD, length-map}
+use lib.ListN.{length, length-map}
 use Rattle.basis.specs.Reply.{ok, refused}
 use Rattle.basis.specs.Number.{be}
 use Rattle.basis.specs.Every.{Every}
@@ -30,7 +30,7 @@ use Rattle.tlv_index_laws.proofs.Used.{used-or-none, only-25}
 use Rattle.tlv_index_laws.proofs.Lookups.{built-says, only-24, value-alone, end-alone}
 use Rattle.tlv_index_laws.specs.Fits.{EntryFits, Fits}
 use Rattle.tlv_index_laws.proofs.Files.{file-read}
-use Rattle.tlv_index_laws.proofs.Encoded.{file-again, read-fits, no-file}
+use Rattle.tlv_index_laws.proofs.Encoded.{no-file}
 use Rattle.tlv_index_laws.proofs.Built.{written-says}
 
 -- the form is checked first, for every path: 25 for other bytes, else the lookup through the index in the file
@@ -73,14 +73,7 @@ crate-many s h =
 pub file-length : (x : Index) → length (fileOf 2 x) ≡ 12 + 7 * length (x .entries)
 file-length x = omega (arith, length-file 2 x (length (x .entries)) refl)
 
--- what is read in two-byte files, with the numbers written out: it guards `Fits` and the form against numbers that are
--- wrong alike
-pub plain-read : (f : List ℕ) (x : Index) → ((i : ℕ) → getD f i 0 < 256) → decoded 2 f ≡ ok x
-    → (length (x .entries) ≤ 255) × (length f ≡ 12 + 7 * length (x .entries)) × ((x .stop .number ≡ 11) ⊎ (x .stop .number ≡ 12))
-plain-read f x small g =
-    let h = read-fits 2 f small x g in
-    (omega (arith, h .few), ap length (sym (file-again 2 f small x g)) ∙ file-length x, h .reason)
-
+-- every index of fitting numbers, these written out, is read in its file
 pub plain-file : (x : Index) → length (x .entries) ≤ 255 → Every (λ e. (e .tag < 16777216) × (e .at < 65536) × (e .len < 65536)) (x .entries)
     → (x .stop .number ≡ 11) ⊎ (x .stop .number ≡ 12) → x .stop .place < 65536 → decoded 2 (fileOf 2 x) ≡ ok x
 plain-file x few entries reason place =
