@@ -7,7 +7,7 @@ use native.Mathlib.Nat.{add-assoc, zero-add, sub-zero, zero-sub, suc-sub-suc, mi
 use native.Mathlib.Numerals.{add-one}
 use native.Mathlib.Omega.{arith}
 use lib.ListN.{length, take, drop, set, getD, length-append, length-drop, drop-of-length-le}
-use lib.Seq.{take-nil, paste-suc, take-length, sets, sets-eq, take-all, take-at, drop-drop, length-take-le, drop-append-add}
+use lib.Seq.{take-nil, paste-suc, take-length, sets, sets-eq, take-all, take-at, take-take, take-append-le, drop-at, drop-drop, length-take-le, drop-append-add}
 use Rattle.basis.specs.Over.{over, overAt}
 
 -- `&s[n..]` is what remains after the first n elements
@@ -78,6 +78,18 @@ over-at-twice at u v l h =
     ∙ ap (λ (k : ℕ). drop k l) size in
     rw (← append-assoc (take at l) u d, front, back) (simp append-assoc)
 
+-- u written directly before v
+pub over-at-before : (at : ℕ) (u v l : List ℕ) → at + length u ≤ length l → overAt at u (overAt (at + length u) v l) ≡ overAt at (u ++ v) l
+unfolding overAt
+over-at-before at u v l h =
+    let b : ℕ = at + length u in
+    let r : List ℕ = v ++ drop (b + length v) l in
+    let n : length (take b l) ≡ b = length-take-le b l h in
+    let front : take at (take b l ++ r) ≡ take at l = take-append-le at (take b l) r (omega arith) ∙ take-take at b l (omega arith) in
+    let back : drop b (take b l ++ r) ≡ r = drop-at (take b l) r b n in
+    let size : b + length v ≡ at + length (u ++ v) = simp (length-append, add-assoc) in
+    rw (front, back, size) (simp append-assoc)
+
 -- after u was written, the part after it is lent to a writer, which writes v over the front of that part
 pub next : (at b : ℕ) (xs l u v ys : List ℕ) → l ≡ overAt at u xs → b ≡ at + length u → b + length v ≤ length xs
     → ys ≡ over v (take (length l - b) (drop b l)) → take b l ++ (ys ++ drop (length l - b) (drop b l)) ≡ overAt at (u ++ v) xs
@@ -89,3 +101,18 @@ next at b xs l u v ys e eb h ey =
 pub next-over : (b : ℕ) (xs l u v ys : List ℕ) → l ≡ over u xs → b ≡ length u → b + length v ≤ length xs
     → ys ≡ over v (take (length l - b) (drop b l)) → take b l ++ (ys ++ drop (length l - b) (drop b l)) ≡ over (u ++ v) xs
 next-over b xs l u v ys e eb h ey = next 0 b xs l u v ys (e ∙ sym (over-at-zero u xs)) (omega arith) h ey ∙ over-at-zero (u ++ v) xs
+
+-- after u was written over the front, a part further back is lent to a writer, which writes v over its front; then the
+-- part after u is lent to a writer of w, which ends where v starts
+pub between-over : (a b : ℕ) (xs l m u w v ys zs : List ℕ) → l ≡ over u xs → a ≡ length u → b ≡ a + length w → b + length v ≤ length xs
+    → ys ≡ over v (take (length l - b) (drop b l)) → m ≡ take b l ++ (ys ++ drop (length l - b) (drop b l))
+    → zs ≡ over w (take (length m - a) (drop a m)) → take a m ++ (zs ++ drop (length m - a) (drop a m)) ≡ over ((u ++ w) ++ v) xs
+between-over a b xs l m u w v ys zs e ea eb h ey em ez =
+    let n : length l ≡ length xs = rw e (length-over u xs (omega arith)) in
+    let back : m ≡ overAt b v l = em ∙ lent l b v ys (omega arith) ey in
+    let k : length m ≡ length xs = rw back (length-over-at b v l (omega arith) ∙ n) in
+    let both : overAt a w m ≡ overAt a (w ++ v) l = rw (back, eb) (over-at-before a w v l (omega arith)) in
+    let first : l ≡ overAt 0 u xs = e ∙ sym (over-at-zero u xs) in
+    let place : a ≡ 0 + length u = omega arith in
+    let all : overAt a (w ++ v) l ≡ overAt 0 (u ++ (w ++ v)) xs = rw (first, place) (over-at-twice 0 u (w ++ v) xs (omega arith)) in
+    lent m a w zs (omega arith) ez ∙ both ∙ all ∙ over-at-zero _ xs ∙ ap (λ (z : List ℕ). over z xs) (sym (append-assoc u w v))

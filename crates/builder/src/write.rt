@@ -25,7 +25,8 @@ fn put_header(builder: CommandBuilder, to: &mut [u8])
     to[3] = builder.p2;
 }
 
-// A length field of no byte, one, two, or a zero byte and two. 256 in one byte and 65,536 in two are zeros (rule 3.8).
+// A length field of no byte, one, two, or a zero byte and two, written straight into its part (rule 12.15). 256 in one
+// byte and 65,536 in two are zeros (rule 3.8).
 fn put_field(size: usize, n: usize, to: &mut [u8])
     requires { ⌜ (size ≤ 3) × (size ≤ length (now to)) ⌝ }
     ensures { λ _. ⌜ now (to .exit) ≡ over (field size n) (now (to .entry)) ⌝ }
@@ -58,15 +59,16 @@ fn put_data(lc: usize, data: &[u8], to: &mut [u8])
     bytes::copy(data, &mut to[lc..]);
 }
 
-// A command that fits: header, Lc and data, Le, each written into the part that starts at its place (rule 12.12).
+// A command that fits: header, Le, then Lc and data, each written into the part that starts at its place (rule 12.12).
+// Le comes before the data, so that nothing of it is kept while they are copied (rule 12.15).
 fn put_command(builder: CommandBuilder, sizes: Fields, data: &[u8], to: &mut [u8])
     requires { ⌜ Fits sizes (length (now «data»)) (length (now to)) ⌝ }
     ensures { λ _. ⌜ now (to .exit) ≡ over (laidOut builder sizes (now («data» .entry))) (now (to .entry)) ⌝ }
 {
     put_header(builder, to);
-    put_data(sizes.lc, data, &mut to[4..]);
     let at_le = 4 + sizes.lc + data.len();
     put_field(sizes.le, sizes.written, &mut to[at_le..]);
+    put_data(sizes.lc, data, &mut to[4..]);
 }
 
 impl CommandBuilder {

@@ -11,9 +11,7 @@ use Rattle.basis.specs.Number.{be}
 use Rattle.basis.specs.Reply.{ok}
 use Rattle.basis.specs.Over.{overAt}
 use Rattle.tlv_write.specs.Written.{tagBytes, lenBytes, objectBytes, putOf, put-data-object-is}
-use Rattle.tlv_write.specs.Shown.{serializedBytes, SerializedAs}
 use Rattle.tlv_write.specs.declared.PutDataObject.the-variants.{Written, Refused}
-use Rattle.tlv_write.specs.declared.Serialized.{Serialized}
 use Rattle.tlv_write.proofs.Shown.{tag-one, tag-two, tag-three}
 
 module _ (t v b : List ℕ) (at : ℕ) where
@@ -22,27 +20,27 @@ module _ (t v b : List ℕ) (at : ℕ) where
   unfolding putOf
   too-long h = let n = lt-ltb 65535 (length v) h in record { reply = rw n; buffer = rw n }
 
-  -- a value of at most 65,535 bytes, with its tag and length as they are written: 16 if the object does not fit, else
+  -- a value of at most 65,535 bytes, and how many bytes its tag and its length take: 16 if the object does not fit, else
   -- it is written
-  module _ (h : length v ≤ 65535) {p q : Serialized} (tag : SerializedAs (tagBytes t) p) (len : SerializedAs (lenBytes (length v)) q) where
-    size : length (objectBytes t v) ≡ p .len + q .len + length v
+  module _ (h : length v ≤ 65535) {p q : ℕ} (tag : p ≡ length (tagBytes t)) (len : q ≡ length (lenBytes (length v))) where
+    size : length (objectBytes t v) ≡ p + q + length v
     unfolding objectBytes
-    size = simp length-append (omega (arith, tag .count, len .count))
+    size = simp length-append (omega (arith, tag, len))
 
-    pub no-room : length b < at + (p .len + q .len + length v) → put-data-object-is t v b at (Refused 16) b
+    pub no-room : length b < at + (p + q + length v) → put-data-object-is t v b at (Refused 16) b
     unfolding putOf
     no-room g =
         let n = le-ltb 65535 (length v) h in
         let m = lt-ltb _ _ g in
         record { reply = rw (n, size, m); buffer = rw (n, size, m) }
 
-    pub written : (after : List ℕ) → at + (p .len + q .len + length v) ≤ length b → after ≡ overAt at ((serializedBytes p ++ serializedBytes q) ++ v) b
-        → put-data-object-is t v b at (Written (p .len + q .len + length v)) after
-    unfolding putOf objectBytes
+    pub written : (after : List ℕ) → at + (p + q + length v) ≤ length b → after ≡ overAt at (objectBytes t v) b
+        → put-data-object-is t v b at (Written (p + q + length v)) after
+    unfolding putOf
     written after g e =
         let n = le-ltb 65535 (length v) h in
         let m = le-ltb _ _ g in
-        record { reply = rw (n, size, m); buffer = e ∙ rw (n, size, m, tag .bytes, len .bytes) }
+        record { reply = rw (n, size, m); buffer = e ∙ rw (n, size, m) }
 
 -- an object has at least one byte
 len-some : (n : ℕ) (b c : Bool) → 1 ≤ length (cond b (n ∷ []) (cond c (0x81 ∷ n ∷ []) (0x82 ∷ be 2 n)))

@@ -1,12 +1,10 @@
-// BER objects written: the tag, the shortest length, and the value.
+// BER objects written: the tag, the shortest length, and the value, each straight into the output (rule 12.15).
 // Ported, with changes, from src/tlv.rs of the crate iso7816 0.2.2 (see NOTICE).
 ghost use mathlib.Core.Path.{_≡_};
-ghost use mathlib.Core.List.{_++_};
 ghost use Prim.Native.Nat.{_+_, _≤_};
 ghost use lib.ListN.{length};
 ghost use Rattle.basis.specs.Over.{over, overAt};
-ghost use Rattle.tlv_write.specs.Written.{tagBytes, lenBytes, put-data-object-is};
-ghost use Rattle.tlv_write.specs.Shown.{serializedBytes, SerializedAs};
+ghost use Rattle.tlv_write.specs.Written.{tagBytes, lenBytes, objectBytes, put-data-object-is};
 
 // How many bytes were written; refused if the value is above 65,535 bytes (19) or the object does not fit from the
 // place (16).
@@ -15,69 +13,73 @@ pub enum PutDataObject {
     Refused(u8),
 }
 
-// A tag or a length as it is written: the first `len` of the bytes.
-struct Serialized {
-    bytes: [u8; 3],
-    len: usize,
+// How many bytes a tag takes without the zero bytes in front; the last byte stays (rule 7.1).
+fn tag_size(tag: [u8; 3]) -> usize
+    ensures { λ r. ⌜ (r ≡ length (tagBytes tag)) × (r ≤ 3) ⌝ }
+{
+    if tag[0] != 0 {
+        return 3;
+    }
+    if tag[1] != 0 {
+        return 2;
+    }
+    1
 }
 
-// A tag without the zero bytes in front; the last byte stays (rule 7.1). Any three bytes are taken, and none is changed
-// (rule 7.5).
-fn serialize(tag: [u8; 3]) -> Serialized
-    ensures { λ r. ⌜ SerializedAs (tagBytes tag) r ⌝ }
+// How many bytes a length takes in the shortest form (rule 7.2).
+fn len_size(len: usize) -> usize
+    requires { ⌜ len ≤ 65535 ⌝ }
+    ensures { λ r. ⌜ (r ≡ length (lenBytes len)) × (r ≤ 3) ⌝ }
+{
+    if len <= 0x7F {
+        return 1;
+    }
+    if len <= 0xFF {
+        return 2;
+    }
+    3
+}
+
+// Writes a tag without the zero bytes in front over the front of a part; the last byte stays (rule 7.1). Any three
+// bytes are taken, and none is changed (rule 7.5).
+fn put_tag(tag: [u8; 3], part: &mut [u8])
+    requires { ⌜ length (tagBytes tag) ≤ length (now part) ⌝ }
+    ensures { λ _. ⌜ now (part .exit) ≡ over (tagBytes tag) (now (part .entry)) ⌝ }
 {
     let b1 = tag[0];
     let b2 = tag[1];
     let b3 = tag[2];
     if b1 != 0 {
-        return Serialized {
-            bytes: [b1, b2, b3],
-            len: 3,
-        };
+        part[0] = b1;
+        part[1] = b2;
+        part[2] = b3;
+        return;
     }
     if b2 != 0 {
-        return Serialized {
-            bytes: [b2, b3, 0],
-            len: 2,
-        };
+        part[0] = b2;
+        part[1] = b3;
+        return;
     }
-    Serialized {
-        bytes: [b3, 0, 0],
-        len: 1,
-    }
+    part[0] = b3;
 }
 
-// A length in the shortest form (rule 7.2).
-fn serialize_len(len: usize) -> Serialized
-    requires { ⌜ len ≤ 65535 ⌝ }
-    ensures { λ r. ⌜ SerializedAs (lenBytes len) r ⌝ }
+// Writes a length in the shortest form over the front of a part (rule 7.2).
+fn put_len(n: usize, part: &mut [u8])
+    requires { ⌜ (n ≤ 65535) × (length (lenBytes n) ≤ length (now part)) ⌝ }
+    ensures { λ _. ⌜ now (part .exit) ≡ over (lenBytes n) (now (part .entry)) ⌝ }
 {
-    if len <= 0x7F {
-        return Serialized {
-            bytes: [len as u8, 0, 0],
-            len: 1,
-        };
+    if n <= 0x7F {
+        part[0] = n as u8;
+        return;
     }
-    if len <= 0xFF {
-        return Serialized {
-            bytes: [0x81, len as u8, 0],
-            len: 2,
-        };
+    if n <= 0xFF {
+        part[0] = 0x81;
+        part[1] = n as u8;
+        return;
     }
-    Serialized {
-        bytes: [0x82, (len / 256) as u8, (len % 256) as u8],
-        len: 3,
-    }
-}
-
-// Writes a tag or a length over the front of a part.
-fn put_serialized(s: Serialized, part: &mut [u8])
-    requires { ⌜ (s .len ≤ 3) × (s .len ≤ length (now part)) ⌝ }
-    ensures { λ _. ⌜ now (part .exit) ≡ over (serializedBytes s) (now (part .entry)) ⌝ }
-{
-    let bytes = s.bytes;
-    let len = s.len;
-    bytes::copy(&bytes[..len], part);
+    part[0] = 0x82;
+    part[1] = (n / 256) as u8;
+    part[2] = (n % 256) as u8;
 }
 
 // Writes a value over the front of a part.
@@ -88,16 +90,17 @@ fn put_value(value: &[u8], part: &mut [u8])
     bytes::copy(value, part);
 }
 
-// Writes an object whose tag and length are serialized: each field into the part of the buffer that starts at its
-// place.
-fn write(tag: Serialized, len: Serialized, value: &[u8], buffer: &mut [u8], at: usize)
-    requires { ⌜ (tag .len ≤ 3) × (len .len ≤ 3) × (at + (tag .len + len .len + length (now value)) ≤ length (now buffer)) ⌝ }
-    ensures { λ _. ⌜ now (buffer .exit) ≡ overAt at ((serializedBytes tag ++ serializedBytes len) ++ now (value .entry)) (now (buffer .entry)) ⌝ }
+// Writes an object that fits: tag, length and value, each into the part of the buffer that starts at its place.
+fn write(tag: [u8; 3], value: &[u8], buffer: &mut [u8], at: usize)
+    requires { ⌜ (length (now value) ≤ 65535)
+        × (at + (length (tagBytes tag) + length (lenBytes (length (now value))) + length (now value)) ≤ length (now buffer)) ⌝ }
+    ensures { λ _. ⌜ now (buffer .exit) ≡ overAt at (objectBytes tag (now (value .entry))) (now (buffer .entry)) ⌝ }
 {
-    put_serialized(tag, &mut buffer[at..]);
-    let at_len = at + tag.len;
-    put_serialized(len, &mut buffer[at_len..]);
-    let at_value = at_len + len.len;
+    let n = value.len();
+    put_tag(tag, &mut buffer[at..]);
+    let at_len = at + tag_size(tag);
+    put_len(n, &mut buffer[at_len..]);
+    let at_value = at_len + len_size(n);
     put_value(value, &mut buffer[at_value..]);
 }
 
@@ -109,15 +112,13 @@ pub fn put_data_object(tag: [u8; 3], value: &[u8], buffer: &mut [u8], at: usize)
     if 65535 < n {
         return PutDataObject::Refused(19);
     }
-    let tag = serialize(tag);
-    let len = serialize_len(n);
-    let size = tag.len + len.len + n;
+    let size = tag_size(tag) + len_size(n) + n;
     if buffer.len() < at {
         return PutDataObject::Refused(16);
     }
     if buffer.len() - at < size {
         return PutDataObject::Refused(16);
     }
-    write(tag, len, value, buffer, at);
+    write(tag, value, buffer, at);
     PutDataObject::Written(size)
 }

@@ -1,5 +1,4 @@
 // Lines with indexes: the index of a record, the form of a file, and lookups through either (rules 17.1 to 17.10).
-ghost use Prim.Native.Nat.{_≤_};
 use crate::records;
 use crate::report;
 use crate::text;
@@ -26,20 +25,9 @@ fn show_file(file: &[u8], expected: &[u8]) -> usize {
     show_form(file, expected)
 }
 
-// A length, but at most the bytes that there are.
-fn up_to(most: usize, n: u32) -> usize
-    ensures { λ r. ⌜ r ≤ most ⌝ }
-{
-    let len = n as usize;
-    if len < most {
-        return len;
-    }
-    most
-}
-
 // Prints the index of a record, built into the first bytes of a buffer, as many as `len`.
 fn show_index(record: &[u8], buffer: &mut [u8], len: u32, expected: &[u8]) -> usize {
-    let end = up_to(buffer.len(), len);
+    let end = text::up_to(buffer.len(), len);
     match build_index(record, &mut buffer[0..end], 0) {
         BuildIndex::Refused(k) => report::number(expected, 0, b"refusal ", k as usize),
         BuildIndex::Written(n) => show_file(text::part(buffer, 0, n), expected),

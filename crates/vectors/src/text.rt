@@ -49,6 +49,17 @@ pub(crate) fn expected_by_standard<'a>(by_standard: &'a [u8], by_crate: &'a [u8]
     by_standard
 }
 
+// A length, but at most the bytes that there are.
+pub(crate) fn up_to(most: usize, n: u32) -> usize
+    ensures { λ r. ⌜ r ≤ most ⌝ }
+{
+    let len = n as usize;
+    if len < most {
+        return len;
+    }
+    most
+}
+
 // A hexadecimal digit; 16 for any other byte.
 fn digit(b: u8) -> u8 {
     match b {

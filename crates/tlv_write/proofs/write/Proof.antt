@@ -1,34 +1,27 @@
 use borrow.Author.Needs.{needs}
 use native.Mathlib.Omega.{arith}
-use mathlib.Core.Path.{_≡_}
-use lib.ListN.{length, length-append}
-use lib.Seq.{length-take-le}
-use Rattle.tlv_write.specs.Shown.{serializedBytes}
+use lib.ListN.{length-append}
 use Rattle.basis.proofs.Over.{lent, next}
+use Rattle.tlv_write.specs.Written.{objectBytes}
 use Rattle.tlv_write.proofs.write.Statement.{statement}
 use Rattle.tlv_write.proofs.write.Tie as tie
 
-tag-shown : (s : tie.Start) → length (serializedBytes (s .args .tag)) ≡ s .args .tag .len
-tag-shown s =
-    let h : length (s .args .tag .bytes) ≡ 3 = search needs in length-take-le _ _ (omega arith)
-
-len-shown : (s : tie.Start) → length (serializedBytes (s .args .len)) ≡ s .args .len .len
-len-shown s =
-    let h : length (s .args .len .bytes) ≡ 3 = search needs in length-take-le _ _ (omega arith)
-
 returns : tie.Need-returns
+unfolding objectBytes
 returns c =
     let v = c .before .before in
-    let l = v .before .before .before .before .before in
-    let t = l .before .before .before .before .before in
+    let n = v .before .before in
+    let l = n .before .before .before in
+    let m = l .before .before in
+    let t = m .before .before .before in
     let s = t .before .before .before .before in
-    let p = tag-shown s in
-    let q = len-shown s in
+    let p = m .tag-size .ensures .0 in
+    let q = n .len-size .ensures .0 in
     next _ _ _ _ _ _ _
     (next _ _ _ _ _ _ _
-    (lent _ _ _ _ (omega (arith, s .pre)) (t .put-serialized .ensures))
-    (omega arith) (omega (arith, s .pre)) (l .put-serialized2 .ensures))
-    (simp length-append (omega arith)) (omega (arith, s .pre)) (v .put-value .ensures)
+    (lent _ _ _ _ (omega (arith, s .pre .1)) (t .put-tag .ensures))
+    (omega arith) (omega (arith, s .pre .1)) (l .put-len .ensures))
+    (simp length-append (omega arith)) (omega (arith, s .pre .1)) (v .put-value .ensures)
 
 pub write-spec : {M : Type 1} → statement M
 write-spec =
@@ -38,10 +31,12 @@ write-spec =
     (λ c. search needs)
     (λ c. search needs)
     (λ c κs. search needs)
+    (λ c κs. search needs)
     (λ c. search needs)
     (λ c. search needs)
     (λ c. search needs)
     (λ c. search needs)
+    (λ c κs. search needs)
     (λ c κs. search needs)
     (λ c. search needs)
     (λ c. search needs)
