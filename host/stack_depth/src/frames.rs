@@ -91,7 +91,7 @@ fn symbol(relocation: &str) -> Option<&str> {
 fn instruction(line: &str) -> Option<Instruction<'_>> {
     let (address, text) = line.split_once(":\t")?;
     let text = text.split('#').next()?.trim();
-    let text = text.strip_prefix("notrack ").unwrap_or(text);
+    let text = text.strip_prefix("notrack ").or(text.strip_prefix("bnd ")).unwrap_or(text);
     let (operation, operands) = text.split_once(' ').unwrap_or((text, ""));
     Some(Instruction { address: hexadecimal(address.trim())?, operation, operands: operands.trim(), symbol: None })
 }
@@ -117,7 +117,11 @@ impl<'a> Instruction<'a> {
             return Some(Next::Following);
         }
         if self.operands.starts_with('*') {
-            return Some(Next::TableOfPlaces);
+            // An address that the linker fills in is a function's; any other one is taken from a table.
+            return Some(match self.operands.contains("(%rip)") {
+                true => Next::Function(self.symbol?),
+                false => Next::TableOfPlaces,
+            });
         }
         let (address, _) = self.target()?;
         let place = match self.symbol {
@@ -226,9 +230,8 @@ mod tests {
     fn archive(x: &[&str]) -> String {
         let mut text = String::from("In archive libx_abi.a:\n\n0000000000000000 <gorvisclen_x>:\n");
         for (address, line) in x.iter().chain(&["ret"]).enumerate() {
-            match line.strip_prefix("call ").or(line.strip_prefix("jmp to ")) {
-                Some(name) => {
-                    let operation = line.split(' ').next().unwrap();
+            match line.split_once(" to ") {
+                Some((operation, name)) => {
                     text += &format!("   {address:x}:\t{operation}   9 <gorvisclen_x+0x9>\n");
                     text += &format!("\t\t\t{address:x}: R_X86_64_PLT32\t{name}-0x4\n");
                 }
@@ -264,12 +267,13 @@ mod tests {
 
     #[test]
     fn calls() {
-        assert_eq!(depth(&["push   %rbx", "call .text.y", "pop    %rbx"]), Some(32));
+        assert_eq!(depth(&["push   %rbx", "call to .text.y", "pop    %rbx"]), Some(32));
         assert_eq!(depth(&["jmp to y"]), Some(16));
-        assert_eq!(depth(&["call memcpy"]), Some(8));
-        assert_eq!(depth(&["call memmove"]), None);
-        assert_eq!(depth(&["call gorvisclen_x"]), None);
+        assert_eq!(depth(&["call to memcpy"]), Some(8));
+        assert_eq!(depth(&["call to memmove"]), None);
+        assert_eq!(depth(&["call to gorvisclen_x"]), None);
         assert_eq!(depth(&["call   *%rax"]), None);
+        assert_eq!(depth(&["jmp    *0x0(%rip)"]), None);
         assert_eq!(depth(&["push   %rbx", "jmp to y"]), None);
     }
 
