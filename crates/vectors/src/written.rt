@@ -2,30 +2,12 @@
 // to 7.3).
 use crate::report;
 use crate::text;
+use abi::builder_by_numbers;
 use builder::Built;
 use builder::CommandBuilder;
-use builder::ExpectedLen;
-use builder::ExtendedLen;
 use builder::Length;
 use tlv_write::PutDataObject;
 use tlv_write::put_data_object;
-
-// The mode with this number: 0 short only, 1 extended supported, any other extended forced.
-fn mode(n: u32) -> ExtendedLen {
-    match n {
-        0 => ExtendedLen::Unsupported,
-        1 => ExtendedLen::Supported,
-        _ => ExtendedLen::Forced,
-    }
-}
-
-// The expected length with this number: any above 65,535 is Max.
-fn expected_len(n: u32) -> ExpectedLen {
-    if n < 65536 {
-        return ExpectedLen::Ne((n % 0x10000) as u16);
-    }
-    ExpectedLen::Max
-}
 
 // Writes the command of a builder with these data from a place of the first bytes of a buffer, as many as `len`, and
 // prints its length.
@@ -46,8 +28,8 @@ fn show_written(
 
 // Writes the command 00A40400 with these data. The numbers: mode, Le, length of the buffer, place.
 fn show_command(data: &[u8], numbers: [u32; 8], buffer: &mut [u8], expected: &[u8]) -> usize {
-    let le = expected_len(numbers[1]);
-    match CommandBuilder::new(0x00, 0xA4, 0x04, 0x00, data, le, mode(numbers[0])) {
+    let mode = (numbers[0] % 256) as u8;
+    match builder_by_numbers(0x00, 0xA4, 0x04, 0x00, numbers[1], mode, data) {
         Built::Refused(k) => report::number(expected, 0, b"refusal ", k as usize),
         Built::Builder(builder) => {
             show_written(builder, data, numbers[2], numbers[3], buffer, expected)

@@ -52,6 +52,7 @@ struct Run {
     lent: Lent,
     /// How many bytes more than its limit a function may take.
     more: usize,
+    /// What is wrong so far.
     wrong: Vec<String>,
 }
 
@@ -75,16 +76,19 @@ impl Run {
         println!("{name:<24}{}", columns.map(|n| format!("{:>10}", shown(n))).concat());
         if let Some(rust) = &rust {
             print_apart(parameters, &measured, rust);
+            self.check_accepted(&format!("the Rust's {name}"), rust);
         }
-        self.check(name, &measured, frames, limited);
+        self.check_accepted(name, &measured);
+        self.check(name, measured.deepest(), frames, limited);
     }
 
-    /// Keeps what is wrong with a function.
-    fn check(&mut self, name: &str, measured: &Measured, frames: Option<usize>, limited: Option<&Limited>) {
-        let painted = measured.deepest();
+    fn check_accepted(&mut self, name: &str, measured: &Measured) {
         if measured.accepted == 0 {
             self.wrong.push(format!("{name}: every call was refused"));
         }
+    }
+
+    fn check(&mut self, name: &str, painted: usize, frames: Option<usize>, limited: Option<&Limited>) {
         match frames {
             None => self.wrong.push(format!("{name} is in no archive")),
             Some(frames) if frames < painted || frames > painted + UNWRITTEN => {
@@ -137,8 +141,12 @@ fn main() {
     for function in &exported {
         run.print(function, frames.get(function.name).copied());
     }
-    let unmeasured = frames.keys().filter(|name| exported.iter().all(|function| function.name != *name));
-    run.wrong.extend(unmeasured.map(|name| format!("{name} is exported and not measured")));
+    let limited = LIMITED.iter().map(|limited| limited.name);
+    for name in frames.keys().map(String::as_str).chain(limited) {
+        if exported.iter().all(|function| function.name != name) {
+            run.wrong.push(format!("{name} is not measured"));
+        }
+    }
     run.wrong.iter().for_each(|line| println!("{line}"));
     if run.wrong.is_empty() {
         println!("painted and frames agree, and no function is above its limit");
