@@ -1,5 +1,5 @@
-// Lines with what is written into a buffer of 16 bytes of EE or fewer: commands (rules 3.3 to 3.9) and objects (rules 7.1
-// to 7.3).
+// Lines with what is written into a buffer of 16 bytes of EE or fewer: commands (rules 3.3 to 3.9) and objects (rules
+// 7.1 to 7.3).
 use crate::report;
 use crate::text;
 use abi::builder_by_numbers;
