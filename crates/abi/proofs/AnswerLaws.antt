@@ -42,6 +42,14 @@ module _ (k : ℕ) (vs out : List ℕ) where
   pub row-told : (after : List ℕ) → length vs ≤ length out → after ≡ over vs out → RowTold (row k vs) out k after
   row-told after h e = record { reply = rw (le-ltb _ _ h); told = rw (le-ltb _ _ h) e }
 
+-- what a promised row says: the slice is long enough for it, or too short
+module _ (x : Row) (out : List ℕ) (r : ℕ) (after : List ℕ) (p : RowTold x out r after) where
+  pub row-fits : length (x .numbers) ≤ length out → (r ≡ x .status) × (after ≡ over (x .numbers) out)
+  row-fits h = let l = le-ltb (length out) (length (x .numbers)) h in (rw l at (p .reply), rw l at (p .told))
+
+  pub row-does-not-fit : length out < length (x .numbers) → (r ≡ shortStatus (x .status)) × (after ≡ out)
+  row-does-not-fit h = let l = lt-ltb (length out) (length (x .numbers)) h in (rw l at (p .reply), rw l at (p .told))
+
 -- a row under another name
 pub told-as : (x y : Row) (out : List ℕ) (r : ℕ) (after : List ℕ) → x ≡ y → RowTold x out r after → RowTold y out r after
 told-as x y out r after e h = subst (λ (z : Row). RowTold z out r after) e h

@@ -1,12 +1,12 @@
 -- One reply: any two replies that a promise allows are equal (rule 11.1).
 use Prim.Native.Nat.{ℕ}
 use mathlib.Core.Path.{_≡_, refl, _∙⁻¹_}
-use mathlib.Core.Bool.{cond}
+use mathlib.Core.Bool.{Bool, cond}
 use mathlib.Core.List.{List}
 use lib.Dec.{eqb}
 use Rattle.basis.specs.Reply.{Told, Reply, ok, refused}
 use Rattle.basis.proofs.Reply.{apart}
-use Rattle.tlv.specs.Tag.{Tag, take-tag-is, asReply as tag-reply}
+use Rattle.tlv.specs.Tag.{Tag, crate-tag-size-is, crate-third-byte-is, take-tag-is, asReply as tag-reply}
 use Rattle.tlv.specs.Len.{Len, take-len-is, asReply as len-reply}
 use Rattle.tlv.specs.Object.{Item, Stop, take-data-object-is, asReply as object-reply}
 use Rattle.tlv.specs.Lookup.{Found, Halt, get-data-object-is, value-is, asReply as lookup-reply}
@@ -59,6 +59,12 @@ lookup-there-and-back : (x : GetDataObject) → lookup-back (lookup-reply x) ≡
 lookup-there-and-back (get.Value a n m) = refl
 lookup-there-and-back (get.End p m) = refl
 lookup-there-and-back (get.Unreadable p m) = refl
+
+pub crate-tag-size : (b x y : ℕ) → crate-tag-size-is b x → crate-tag-size-is b y → x ≡ y
+crate-tag-size b x y p q = p ∙⁻¹ q
+
+pub crate-third-byte : (b : ℕ) (x y : Bool) → crate-third-byte-is b x → crate-third-byte-is b y → x ≡ y
+crate-third-byte b x y p q = p ∙⁻¹ q
 
 module _ (r : Reading) (s : List ℕ) where
   pub take-tag : (x y : TakeTag) → take-tag-is r s x → take-tag-is r s y → x ≡ y

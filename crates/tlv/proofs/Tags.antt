@@ -7,7 +7,7 @@ use native.Mathlib.Decide.{decLe}
 use native.Mathlib.Omega.{arith}
 use lib.Dec.{ltb, eqb}
 use lib.ListN.{length, getD}
-use borrow.Author.Tests.{ltb-true, ltb-false, eqb-true, eqb-false, le-ltb, le-leb, eq-eqb, ne-eqb}
+use borrow.Author.Tests.{ltb-true, ltb-false, eqb-true, eqb-false, lt-ltb, le-ltb, le-leb, eq-eqb, ne-eqb}
 use Rattle.basis.specs.Reply.{Reply, ok, refused}
 use Rattle.basis.proofs.Reply.{refused-not-ok}
 use Rattle.basis.proofs.Truth.{on-cond}
@@ -94,6 +94,24 @@ module _ (r : Reading) (s : List ℕ) where
           ne-eqb (tagSize r (getD s 1 0)) 2 w,
           le-ltb (length s) 3 h,
           t,
+        )
+
+    -- a second or a third byte that is missing gives 12
+    pub second-missing : 1 ≤ length s → length s < 2 → tagOf r s ≡ refused 12
+    unfolding tagOf longTag
+    second-missing h g = rw (le-ltb (length s) 1 h, eq-eqb (getD s 0 0 % 32) 31 long, lt-ltb (length s) 2 g)
+
+    pub third-missing : 2 ≤ length s → length s < 3 → (tagSize r (getD s 1 0) ≡ 0 → ⊥) → (tagSize r (getD s 1 0) ≡ 2 → ⊥)
+        → tagOf r s ≡ refused 12
+    unfolding tagOf longTag threeBytes
+    third-missing h g z w =
+        rw (
+          le-ltb (length s) 1 (omega arith),
+          eq-eqb (getD s 0 0 % 32) 31 long,
+          le-ltb (length s) 2 h,
+          ne-eqb (tagSize r (getD s 1 0)) 0 z,
+          ne-eqb (tagSize r (getD s 1 0)) 2 w,
+          lt-ltb (length s) 3 g,
         )
 
     -- a second or a third byte that is refused gives 12

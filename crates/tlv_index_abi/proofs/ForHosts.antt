@@ -7,7 +7,8 @@ use borrow.Author.Tests.{lt-ltb, le-ltb}
 use lib.ListN.{length}
 use Rattle.basis.specs.Reply.{ok, refused}
 use Rattle.basis.specs.Over.{over, overAt}
-use Rattle.abi.specs.Answers.{NumbersWritten, Row, row, shortStatus, RowTold}
+use Rattle.abi.specs.Answers.{NumbersWritten, row}
+use Rattle.abi.proofs.AnswerLaws.{row-fits, row-does-not-fit}
 use Rattle.tlv_index.specs.Index.{crateKind}
 use Rattle.tlv_index.specs.File.{checked}
 use Rattle.tlv_index.specs.Build.{written}
@@ -50,38 +51,30 @@ module _ (f out : List ℕ) (r : ℕ) (out′ : List ℕ) (p : NumbersWritten 1 
   unfolding checkIndexReply
   form-not-told e h = let l = lt-ltb (length out) 1 h in (rw (l, e) at (p .reply), rw (l, e) at (p .row))
 
--- what a row says if the slice is long enough for it, and if it is not
-module _ (x : Row) (out : List ℕ) (r : ℕ) (out′ : List ℕ) (p : RowTold x out r out′) where
-  told : length (x .numbers) ≤ length out → (r ≡ x .status) × (out′ ≡ over (x .numbers) out)
-  told h = let l = le-ltb (length out) (length (x .numbers)) h in (rw l at (p .reply), rw l at (p .told))
-
-  not-told : length out < length (x .numbers) → (r ≡ shortStatus (x .status)) × (out′ ≡ out)
-  not-told h = let l = lt-ltb (length out) (length (x .numbers)) h in (rw l at (p .reply), rw l at (p .told))
-
 -- a lookup: three numbers of a value, and of 11 and 12; none with 25. If they cannot be written: 16, but 11 and 12 stay
 module _ (f s path out : List ℕ) (r : ℕ) (out′ : List ℕ) (p : IndexedTold f s path out r out′) where
   module _ (h : 3 ≤ length out) where
     pub value-told : (a n m : ℕ) → indexed crateKind f s path ≡ ok (ok (record { at = a; len = n; matched = m }))
         → (r ≡ 0) × (out′ ≡ over (a ∷ n ∷ m ∷ []) out)
-    value-told a n m e = told (row 0 (a ∷ n ∷ m ∷ [])) out r out′ (rw e at p) h
+    value-told a n m e = row-fits (row 0 (a ∷ n ∷ m ∷ [])) out r out′ (rw e at p) h
 
     pub halt-told : (k a m : ℕ) → indexed crateKind f s path ≡ ok (refused (record { number = k; place = a; matched = m }))
         → (r ≡ k) × (out′ ≡ over (a ∷ 0 ∷ m ∷ []) out)
-    halt-told k a m e = told (row k (a ∷ 0 ∷ m ∷ [])) out r out′ (rw e at p) h
+    halt-told k a m e = row-fits (row k (a ∷ 0 ∷ m ∷ [])) out r out′ (rw e at p) h
 
     pub outside-told : indexed crateKind f s path ≡ refused 25 → (r ≡ 25) × (out′ ≡ out)
     outside-told e = let q = rw e at p in (rw (le-ltb (length out) 3 h) at (q .0), q .1)
 
   module _ (h : length out < 3) where
     pub value-not-told : (a n m : ℕ) → indexed crateKind f s path ≡ ok (ok (record { at = a; len = n; matched = m })) → (r ≡ 16) × (out′ ≡ out)
-    value-not-told a n m e = not-told (row 0 (a ∷ n ∷ m ∷ [])) out r out′ (rw e at p) h
+    value-not-told a n m e = row-does-not-fit (row 0 (a ∷ n ∷ m ∷ [])) out r out′ (rw e at p) h
 
     pub end-not-told : (a m : ℕ) → indexed crateKind f s path ≡ ok (refused (record { number = 11; place = a; matched = m })) → (r ≡ 11) × (out′ ≡ out)
-    end-not-told a m e = not-told (row 11 (a ∷ 0 ∷ m ∷ [])) out r out′ (rw e at p) h
+    end-not-told a m e = row-does-not-fit (row 11 (a ∷ 0 ∷ m ∷ [])) out r out′ (rw e at p) h
 
     pub unreadable-not-told : (a m : ℕ) → indexed crateKind f s path ≡ ok (refused (record { number = 12; place = a; matched = m }))
         → (r ≡ 12) × (out′ ≡ out)
-    unreadable-not-told a m e = not-told (row 12 (a ∷ 0 ∷ m ∷ [])) out r out′ (rw e at p) h
+    unreadable-not-told a m e = row-does-not-fit (row 12 (a ∷ 0 ∷ m ∷ [])) out r out′ (rw e at p) h
 
     pub outside-not-told : indexed crateKind f s path ≡ refused 25 → (r ≡ 16) × (out′ ≡ out)
     outside-not-told e = let q = rw e at p in (rw (lt-ltb (length out) 3 h) at (q .0), q .1)

@@ -49,7 +49,7 @@ stays (suc b) c s h = refl
 
 module _ (r : Reading) (s : List ℕ) (bytes : (i : ℕ) → getD s i 0 < 256) where
   -- the writer writes exactly the bytes that the tag was read from
-  tag-bytes : All (λ t. tagBytes (be 3 (t .number)) ≡ take (t .size) s) (tagOf r s)
+  pub tag-bytes : All (λ t. tagBytes (be 3 (t .number)) ≡ take (t .size) s) (tagOf r s)
   unfolding tagBytes
   tag-bytes =
       let b1 = getD s 0 0 in

@@ -1,11 +1,12 @@
 // The program vectors: runs the cases that are run only (rule 11.15), and published vectors: commands of ISO/IEC 7816-3
 // and -4, EMV and ICAO 9303, and records of payment and travel cards. It also runs commands and objects written into
 // buffers (rules 3.3 to 3.9 and 7.1 to 7.3), responses (rules 13.1 to 13.5), exchanges with a card (rules 14.1 to
-// 14.8), places in records (rules 15.1 to 15.5), zero bytes between objects (rules 16.1 to 16.6), and indexes (rules
-// 17.1 to 17.10). It prints for each what was expected and what was found.
+// 14.8), places in records (rules 15.1 to 15.5), zero bytes between objects (rules 16.1 to 16.6), indexes (rules 17.1 to
+// 17.10), and records in chunks (rules 18.1 to 18.7). It prints for each what was expected and what was found.
 //
 // The cases are the lines of standard input, crates/vectors/stdin, which says at its top how each kind is written.
 mod alone;
+mod chunks;
 mod commands;
 mod cuts;
 mod exchanges;
@@ -37,6 +38,8 @@ fn line(line: &[u8]) {
         b'f' => indexes::file(line),
         b'b' => indexes::built(line),
         b'g' => indexes::given(line),
+        b'd' => chunks::divided(line),
+        b'k' => chunks::kept(line),
         _ => report::unknown(line),
     }
 }

@@ -42,6 +42,7 @@ mod response;
 mod splitter;
 mod tally;
 mod tlv;
+mod tlv_chunks;
 mod tlv_index;
 
 use std::{env, fs, process, thread};
@@ -53,8 +54,9 @@ use crate::recording::Recording;
 use crate::tally::Tally;
 
 /// The jobs of the short run. Those that take longest are first.
-const SHORT_RUN: [Job; 10] = [
+const SHORT_RUN: [Job; 11] = [
     tlv::compare,
+    tlv_chunks::compare,
     splitter::compare,
     builder::compare,
     command::compare,
@@ -67,7 +69,7 @@ const SHORT_RUN: [Job; 10] = [
 ];
 
 /// The kinds of random cases. There are equally many of each kind.
-const RANDOM_KINDS: [(&str, Job); 13] = [
+const RANDOM_KINDS: [(&str, Job); 14] = [
     ("class and AID", class_and_aid),
     ("command, parsed and owned", command::random_cases),
     ("command, extended", command::random_extensions),
@@ -75,6 +77,7 @@ const RANDOM_KINDS: [(&str, Job); 13] = [
     ("records with zero bytes between objects, read", tlv::random_zeros),
     ("records, written", tlv::random_writing),
     ("records, read through an index", tlv_index::random_cases),
+    ("records, in chunks", tlv_chunks::random_cases),
     ("command, built", builder::random_cases),
     ("command, one step of splitting", splitter::random_step),
     ("command, cut into a chain", splitter::random_chain),
@@ -103,7 +106,7 @@ const RECORDED: [(usize, Job); 15] = [
 ];
 
 /// What is timed, in the order of the lines.
-const TIMED: [fn(&mut Table); 10] = [
+const TIMED: [fn(&mut Table); 11] = [
     class::bench,
     aid::bench,
     command::bench,
@@ -114,6 +117,7 @@ const TIMED: [fn(&mut Table); 10] = [
     collect::bench,
     tlv::bench,
     tlv_index::bench,
+    tlv_chunks::bench,
 ];
 
 fn class_and_aid(tally: &mut Tally, random: &mut Random) {
@@ -139,7 +143,8 @@ fn options(words: &[&str]) -> Option<Options> {
 fn compare(options: &Options) -> bool {
     println!("seed {}, random cases asked for {}", options.seed, options.cases);
     let results = jobs::run(options, &SHORT_RUN, &RANDOM_KINDS);
-    let failed = results.print(tlv::required_replies().chain(tlv_index::required_replies()));
+    let of_records = tlv::required_replies().chain(tlv_index::required_replies());
+    let failed = results.print(of_records.chain(tlv_chunks::required_replies()));
     #[cfg(feature = "coverage")]
     let failed = branches::print(&results.branches, results.least()) || failed;
     failed

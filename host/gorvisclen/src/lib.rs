@@ -2,9 +2,10 @@
 //! `gorvisclen_`.
 //!
 //! Every function replies to every input: `Ok`, or `Err` with the number of a refusal. A refusal changes no lent
-//! memory, except for 18 (see `command_extend`), and for 11 and 12 of an object and of a lookup, which tell where they
-//! happened (see `take_data_object`, `get_data_object`, `value` and `get_indexed`). Lent memory before and after the
-//! numbers or bytes that are written does not change.
+//! memory, except for 18 (see `command_extend`), for 11 and 12 of an object and of a lookup, which tell where they
+//! happened (see `take_data_object`, `get_data_object`, `value` and `get_indexed`), and for 11 and 12 of a record in
+//! chunks, which tell the state after them (see `ChunkWalk`). Lent memory before and after the numbers or bytes that
+//! are written does not change.
 //!
 //! | No. | Replied exactly when |
 //! |---|---|
@@ -15,7 +16,7 @@
 //! | 5 | the first byte after the command's header is zero, and no case fits |
 //! | 6 to 10 | the AID is empty; over 16 bytes; truncated above its length; national under 5; international under 5 |
 //! | 11 | the end was reached at an object boundary: no byte is left there, or in the standard reading only zeros |
-//! | 12 | an object starts here but cannot be read; a tag or a length alone cannot be read |
+//! | 12 | an object starts here but cannot be read; a tag or a length alone cannot be read; chunks end in an object |
 //! | 13 | the data of the command to build are above 65,535 bytes |
 //! | 14 | splitting one step: a buffer under 4, or no room for data in it; a chain: a buffer under 10 |
 //! | 15 | extended length is forced, but unsupported |
@@ -41,6 +42,7 @@ mod reassembler;
 mod response;
 mod splitter;
 mod tlv;
+mod tlv_chunks;
 mod tlv_index;
 
 pub use aid::{aid, aid_matches, aid_part, aid_whole, AID_NUMBERS};
@@ -61,6 +63,7 @@ pub use tlv::{
     get_data_object, put_data_object, take_data_object, take_len, take_tag, value, LEN_NUMBERS, LOOKUP_NUMBERS,
     OBJECT_NUMBERS, TAG_NUMBERS,
 };
+pub use tlv_chunks::{ChunkWalk, CHUNK_NUMBERS};
 pub use tlv_index::{build_index, check_index, get_indexed, INDEX_BYTES, INDEX_NUMBERS};
 
 /// The number of a refusal.

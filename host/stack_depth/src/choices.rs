@@ -200,6 +200,27 @@ pub fn record() -> Vec<Argument> {
     record_list().into_iter().map(Argument::Bytes).collect()
 }
 
+/// Kinds of states of a walk in chunks. The last one means what 9 means.
+pub fn walk_kind() -> Vec<Argument> {
+    numbers([0, 1, 2, 3, 4, 5, 6, 7, 8, 9, 255])
+}
+
+/// The tag of such a state, or what there is of it.
+pub fn walk_tag() -> Vec<Argument> {
+    numbers([0x5F, 0xDF8101])
+}
+
+/// The further number of such a state: the high byte of a length, or missing bytes.
+pub fn walk_number() -> Vec<Argument> {
+    numbers([0, 1, 65_535])
+}
+
+/// Chunks: records, and single bytes of headers, also those that make a header unreadable.
+pub fn chunk() -> Vec<Argument> {
+    let single = [0x01, 0x1D, 0x24, 0x5F, 0x80, 0x81, 0x82, 0x83, 0xFE, 0xFF].map(|byte| vec![byte]);
+    record_list().into_iter().chain(single).map(Argument::Bytes).collect()
+}
+
 /// Paths: none, one that is found at once, later and deeper, one that is not found.
 pub fn path() -> Vec<Argument> {
     let paths: [&[u32]; 6] = [&[], &[0x5A], &[0x5F24], &[0x5F8124], &[0x70, 0x5F24], &[0x70, 0x70]];

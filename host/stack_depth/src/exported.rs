@@ -74,4 +74,6 @@ exported! {
     build_index(record, buffer, place, out);
     check_index(file, out);
     get_indexed(file, record, path, out);
+    take_chunk(walk_kind, walk_tag, walk_number, chunk, out);
+    close_chunks(walk_kind, walk_tag, walk_number, out);
 }
