@@ -10,7 +10,7 @@ use lib.ListN.{length, drop, length-drop}
 use lib.ListN.{take as bytes-taken}
 use Rattle.tlv_chunks.specs.Header.{byteOf}
 use Rattle.tlv_chunks.specs.Run.{Event, head, end, Step, headerByte, step, run}
-use Rattle.tlv_chunks.specs.Call.{Call, afterByte, upToReply, takeOf, eventsOf, take-is}
+use Rattle.tlv_chunks.specs.Call.{Call, afterByte, upToReply, takeOf, eventsOf, new-is, take-is, close-is}
 use Rattle.tlv_chunks.specs.declared.header.HeaderByte.{HeaderByte}
 use Rattle.tlv_chunks.specs.declared.header.HeaderByte.the-variants as byte
 use Rattle.tlv_chunks.specs.declared.walk.ChunkWalk.{ChunkWalk}
@@ -21,7 +21,7 @@ use Rattle.tlv_chunks.specs.declared.walk.ChunkTaken.{ChunkTaken}
 use Rattle.tlv_chunks_laws.specs.Session.{stoppedBy, LastAnswer, Answered, stateAfter, Session}
 use Rattle.tlv_chunks_laws.proofs.Runs.{run-nothing}
 use Rattle.tlv_chunks_laws.proofs.Answers.{taken-tells, taken-within}
-use Rattle.tlv_chunks_laws.proofs.Stopped.{take-after-11, take-after-12}
+use Rattle.tlv_chunks_laws.proofs.Stopped.{repeats-11, repeats-12, take-after-11, take-after-12}
 
 -- an answer that says this
 abbrev Said : List Event → Type 0
@@ -132,3 +132,14 @@ session-there w (s ∷ ss) =
     let xs = answers-there w s in
     let rest = session-there (stateAfter w (xs .0)) ss in
     (xs .0 ∷ rest .0, (xs .1, rest .1))
+
+-- a walk that `new` gives, and the answer to closing in every state
+pub new-there : (w : ChunkWalk) × new-is w
+new-there = (Boundary, refl)
+
+pub close-there : (w : ChunkWalk) → (y : ChunkTaken) × close-is w y
+close-there Boundary = (repeats-11, record { tells = refl; taken = refl; walk = refl })
+close-there (Header h) = (repeats-12, record { tells = refl; taken = refl; walk = refl })
+close-there (Value n) = (repeats-12, record { tells = refl; taken = refl; walk = refl })
+close-there End = (repeats-11, record { tells = refl; taken = refl; walk = refl })
+close-there Unreadable = (repeats-12, record { tells = refl; taken = refl; walk = refl })

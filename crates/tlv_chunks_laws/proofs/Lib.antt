@@ -5,7 +5,8 @@
 --   run-append (Runs): the run over some bytes and then more is the run over the first, then over the others
 --   divided-tells, divided-state: from a walk that `new` gives, the replies joined together and the final state are
 --     those of the run over all bytes; divisions-agree: so any two divisions of a record agree in both
---   session-there, answers-there, answer-there (Exists): there is such a session for all chunks, from every state
+--   session-there, answers-there, answer-there (Exists): there is such a session for all chunks, from every state;
+--     new-there, close-there: a walk to start from, and an answer to closing in every state
 --   once-..: what "a repeated refusal once" leaves out
 -- The whole record (Closed, Whole; rules 18.6 and 18.9):
 --   closed-tells: all that chunks and the closing call tell, joined together, is what the whole walk says: head and end
