@@ -39,7 +39,8 @@ impl ChunkWalk {
     /// complete, else 0 and 0; how many bytes of `chunk` were taken; the three numbers of the state after them, see
     /// `after`. If it is `Ok` and the first two numbers are 0, more bytes are needed, and all of `chunk` was taken. If
     /// one of them is 1, the rest of `chunk` is handed in next. A value of no bytes is complete with its header: then
-    /// both are 1.
+    /// both are 1. What the bytes of a value are does not matter, and they are not read; nor are bytes that are not
+    /// taken.
     /// Refusals: 11 and 12 if the walk has stopped, and then no byte is taken and the state stays; 12 if the header
     /// cannot be read, at the first byte that makes it so, which is taken; 16. With 11 and 12 the 8 numbers are written
     /// too: four zeros, how many bytes were taken, and the state. If `out` is too short, nothing is written, and 11 and
