@@ -10,11 +10,16 @@ use lib.ListN.{length, drop, getD, drop-of-length-le}
 use lib.Seq.{drop-cons}
 use Rattle.tlv_chunks.specs.Header.{firstOf, byteOf}
 use Rattle.tlv_chunks.specs.Run.{head, end, refusal, headed, headerByte, step}
-use Rattle.tlv_chunks.specs.Call.{Call, later, afterByte, upToReply, takeOf, headCall, restCall, valueCall}
+use Rattle.tlv_chunks.specs.Call.{Call, later, afterByte, upToReply, takeOf, Says, callOf, headCall, restCall, valueCall}
 use Rattle.tlv_chunks.specs.declared.header.Header.{Header as Part}
 use Rattle.tlv_chunks.specs.declared.header.HeaderByte.{HeaderByte}
 use Rattle.tlv_chunks.specs.declared.header.HeaderByte.the-variants as byte
 use Rattle.tlv_chunks.specs.declared.walk.ChunkWalk.the-variants.{Boundary, Header, Value, Unreadable}
+use Rattle.tlv_chunks.specs.declared.walk.ChunkTaken.{ChunkTaken}
+
+-- an answer says one call
+pub call-said : (c : Call) (x : ChunkTaken) → Says c x → c ≡ callOf x
+call-said c x h = sym (λ i. record { tells = h .tells i; taken = h .taken i; walk = h .walk i })
 
 -- a call whose first byte is a byte of a header, by what that byte comes to
 first-byte : (h : Part) (b : ℕ) (s : List ℕ) (x : HeaderByte) → byteOf h b ≡ x

@@ -2,6 +2,7 @@
 -- crate tlv_chunks_laws.
 --
 --   first-.., second-.., third-.., length-.., after-81, ..-after-82 (Headers): what each byte of a header comes to
+--   call-said (Calls): an answer says one call
 --   header-goes-on, header-complete, header-unreadable, header-used-up (Calls): a header, by its byte at a place of the
 --     chunk; from-the-start, no-byte, header-starts: where a chunk starts
 --   head-empty, head-some (Calls): a header that is complete; value-needs-more, value-ends: a value

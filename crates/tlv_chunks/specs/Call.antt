@@ -77,6 +77,10 @@ take-is w s x = Says (takeOf w s) x
 abbrev pub close-is : ChunkWalk → ChunkTaken → Type 0
 close-is w x = Says (closeOf w) x
 
+-- the call that an answer says
+abbrev pub callOf : ChunkTaken → Call
+callOf x = record { tells = eventsOf (x .answer); taken = x .taken; walk = x .walk }
+
 -- for the private functions of `take`: an answer; a header that is complete after k bytes; a header from place k of a
 -- chunk on; a value in a chunk of m bytes, in one step
 abbrev pub answerCall : TakeChunk → ℕ → ChunkWalk → Call

@@ -2,11 +2,12 @@
 -- two calls loses nothing, and no two states have the same numbers.
 use Prim.Native.Nat.{ℕ, zero, suc, _+_, _*_, _/_, _%_, _<_}
 use mathlib.Core.Path.{_≡_, refl, sym, ap, _∙_}
-use mathlib.Core.Bool.{Bool, true, false, cond}
+use mathlib.Core.Bool.{Bool, cond}
 use mathlib.Core.List.{List, [], _∷_}
 use native.Mathlib.Omega.{arith}
 use lib.Dec.{leb, eqb}
 use Rattle.basis.specs.Number.{Bytes}
+use Rattle.basis.proofs.Truth.{on-cond}
 use Rattle.tlv.specs.Tag.{crateTagSize, crateThirdByte}
 use Rattle.tlv_chunks.specs.Header.{firstOf, secondOf, thirdOf, lengthOf, byteOf}
 use Rattle.tlv_chunks.specs.Run.{Event, headerByte, step}
@@ -49,10 +50,9 @@ numbers-there-and-back Unreadable p = stopped-with-12 9 0 0 (omega arith)
 pub numbers-apart : (v w : ChunkWalk) → HoldsBytes v → HoldsBytes w → walkNumbers v ≡ walkNumbers w → v ≡ w
 numbers-apart v w p q e = sym (numbers-there-and-back v p) ∙ ap walkOf e ∙ numbers-there-and-back w q
 
--- of two things both hold P, and so does the one that is chosen
+-- P holds of both, so it holds of the one that is chosen
 chosen : {A : Type 0} (P : A → Type 0) (b : Bool) (x y : A) → P x → P y → P (cond b x y)
-chosen P true x y p q = p
-chosen P false x y p q = q
+chosen P b x y p q = on-cond P b x y (λ _. p) (λ _. q)
 
 -- any three numbers are a state whose bytes are below 256
 module _ (k t n : ℕ) where

@@ -12,8 +12,9 @@ use Rattle.tlv_chunks.specs.declared.header.Header.the-variants.{Tag1, Tag2, Ta
 use Rattle.tlv_chunks.specs.declared.walk.ChunkWalk.{ChunkWalk}
 use Rattle.tlv_chunks.specs.declared.walk.ChunkWalk.the-variants.{Boundary, Header, Value, End, Unreadable}
 use Rattle.tlv_chunks.specs.declared.walk.ChunkTaken.{ChunkTaken}
+use Rattle.tlv_chunks.proofs.Calls.{call-said}
 use Rattle.tlv_chunks_abi.specs.Numbers.{walkByNumbers, headerNumbers, walkNumbers, toldStatus, toldNumbers, rowOf}
-use Rattle.tlv_chunks_abi.specs.Numbers.{callSaid, AnswerTold, ChunkTold, CloseTold}
+use Rattle.tlv_chunks_abi.specs.Numbers.{AnswerTold, ChunkTold, CloseTold}
 
 -- four numbers of what is told, and three of a state, one by one
 abbrev fourOf : List ℕ → List ℕ → List ℕ
@@ -71,18 +72,11 @@ pub row-told : (x : Row) (c : Call) (out : List ℕ) (r : ℕ) (out′ : List �
 row-told x c out r out′ a e = told-as x (rowOf c) out r out′ e a
 
 -- the row of an answer is that of the call that it says
-call-is : (c : Call) (x : ChunkTaken) → Says c x → callSaid x ≡ c
-call-is c x h =
-    let tells = h .tells in
-    let taken = h .taken in
-    let walk = h .walk in
-    λ i. record { tells = tells i; taken = taken i; walk = walk i }
-
 pub chunk-told : (k t n : ℕ) (s : List ℕ) (w : ChunkWalk) (x : ChunkTaken) (out : List ℕ) (r : ℕ) (out′ : List ℕ)
     → w ≡ walkByNumbers k t n → Says (takeOf w s) x → AnswerTold x out r out′ → ChunkTold k t n s out r out′
 chunk-told k t n s w x out r out′ e h a =
-    told-as _ _ out r out′ (ap rowOf (call-is (takeOf w s) x h ∙ ap (λ w. takeOf w s) e)) a
+    told-as _ _ out r out′ (ap rowOf (sym (call-said (takeOf w s) x h) ∙ ap (λ w. takeOf w s) e)) a
 
 pub close-told : (k t n : ℕ) (w : ChunkWalk) (x : ChunkTaken) (out : List ℕ) (r : ℕ) (out′ : List ℕ) → w ≡ walkByNumbers k t n
     → Says (closeOf w) x → AnswerTold x out r out′ → CloseTold k t n out r out′
-close-told k t n w x out r out′ e h a = told-as _ _ out r out′ (ap rowOf (call-is (closeOf w) x h ∙ ap closeOf e)) a
+close-told k t n w x out r out′ e h a = told-as _ _ out r out′ (ap rowOf (sym (call-said (closeOf w) x h) ∙ ap closeOf e)) a

@@ -6,7 +6,7 @@ use lib.Dec.{eqb, leb}
 use lib.ListN.{getD}
 use Rattle.abi.specs.Answers.{Row, row, RowTold}
 use Rattle.tlv_chunks.specs.Run.{Event, head, end, refusal}
-use Rattle.tlv_chunks.specs.Call.{Call, takeOf, closeOf, answerCall}
+use Rattle.tlv_chunks.specs.Call.{Call, takeOf, closeOf, callOf}
 use Rattle.tlv_chunks.specs.declared.header.Header.{Header as Part}
 use Rattle.tlv_chunks.specs.declared.header.Header.the-variants.{Tag1, Tag2, Tag, Length81, Length82, Length82High}
 use Rattle.tlv_chunks.specs.declared.walk.ChunkWalk.{ChunkWalk}
@@ -86,13 +86,9 @@ HoldsBytes (Value n) = Unit {0}
 HoldsBytes End = Unit {0}
 HoldsBytes Unreadable = Unit {0}
 
--- the call that an answer of the code says
-abbrev pub callSaid : ChunkTaken → Call
-callSaid x = answerCall (x .answer) (x .taken) (x .walk)
-
--- the promise of `tell_answer`: the row of that call
+-- the promise of `tell_answer`: the row of the call that an answer says
 abbrev pub AnswerTold : ChunkTaken → List ℕ → ℕ → List ℕ → Type 0
-AnswerTold x out r out′ = RowTold (rowOf (callSaid x)) out r out′
+AnswerTold x out r out′ = RowTold (rowOf (callOf x)) out r out′
 
 -- the promise of `gorvisclen_take_chunk`, for a chunk s in the state that three numbers stand for (rules 18.1 and
 -- 18.10)

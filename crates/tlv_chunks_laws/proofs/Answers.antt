@@ -7,14 +7,14 @@ use mathlib.Core.Option.{none, some}
 use native.Mathlib.Omega.{arith}
 use lib.ListN.{length, take}
 use Rattle.tlv_chunks.specs.Run.{Event, refusal, Step, nothing, following, step, run}
-use Rattle.tlv_chunks.specs.Call.{Call, afterByte, upToReply, repeated, takeOf, eventsOf, take-is}
+use Rattle.tlv_chunks.specs.Call.{Call, afterByte, upToReply, repeated, takeOf, eventsOf, callOf, take-is}
 use Rattle.tlv_chunks.specs.declared.walk.ChunkWalk.{ChunkWalk}
 use Rattle.tlv_chunks.specs.declared.walk.ChunkWalk.the-variants.{Boundary, Header, Value, End, Unreadable}
 use Rattle.tlv_chunks.specs.declared.walk.TakeChunk.the-variants as answer
 use Rattle.tlv_chunks.specs.declared.walk.ChunkTaken.{ChunkTaken}
+use Rattle.tlv_chunks.proofs.Calls.{call-said}
 use Rattle.tlv_chunks_laws.specs.Session.{stoppedBy}
 use Rattle.tlv_chunks_laws.proofs.Runs.{none-some, run-nothing}
-use Rattle.tlv_chunks_laws.proofs.Calls.{callOf}
 
 -- a call in the state w on the chunk s: fewer bytes than it takes tell nothing; if nothing is told all are taken, and never
 -- more than there are
@@ -90,11 +90,8 @@ take-runs Unreadable s e = none-some 12 (sym e)
 
 -- every answer
 module _ (w : ChunkWalk) (s : List ℕ) (x : ChunkTaken) (p : take-is w s x) where
-  same-call : takeOf w s ≡ callOf x
-  same-call = sym (λ i. record { tells = p .tells i; taken = p .taken i; walk = p .walk i })
-
   answer-fewest : Fewest w s (callOf x)
-  answer-fewest = subst (Fewest w s) same-call (take-fewest w s)
+  answer-fewest = subst (Fewest w s) (call-said (takeOf w s) x p) (take-fewest w s)
 
   -- fewer bytes than were taken tell nothing
   pub fewer-tell-nothing : (k : ℕ) → k < x .taken → run w (take k s) .tells ≡ []
@@ -110,4 +107,5 @@ module _ (w : ChunkWalk) (s : List ℕ) (x : ChunkTaken) (p : take-is w s x) whe
   -- unless the walk had stopped, the bytes that were taken tell what is answered, and lead to the state
   pub taken-tells : stoppedBy w ≡ none → run w (take (x .taken) s) ≡ record { tells = eventsOf (x .answer); walk = x .walk }
   taken-tells goes =
-      subst (λ (c : Call). run w (take (c .taken) s) ≡ record { tells = c .tells; walk = c .walk }) same-call (take-runs w s goes)
+      subst (λ (c : Call). run w (take (c .taken) s) ≡ record { tells = c .tells; walk = c .walk }) (call-said (takeOf w s) x p)
+      (take-runs w s goes)

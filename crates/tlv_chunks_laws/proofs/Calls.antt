@@ -7,13 +7,14 @@ use native.Mathlib.Omega.{arith}
 use lib.ListN.{drop}
 use Rattle.tlv_chunks.specs.Header.{byteOf}
 use Rattle.tlv_chunks.specs.Run.{Event, refusal, Step, headerByte, step, following, run}
-use Rattle.tlv_chunks.specs.Call.{Call, afterByte, upToReply, repeated, takeOf, answerCall, take-is}
+use Rattle.tlv_chunks.specs.Call.{Call, afterByte, upToReply, repeated, takeOf, callOf, take-is}
 use Rattle.tlv_chunks.specs.declared.header.Header.{Header as Part}
 use Rattle.tlv_chunks.specs.declared.header.HeaderByte.{HeaderByte}
 use Rattle.tlv_chunks.specs.declared.header.HeaderByte.the-variants as byte
 use Rattle.tlv_chunks.specs.declared.walk.ChunkWalk.{ChunkWalk}
 use Rattle.tlv_chunks.specs.declared.walk.ChunkWalk.the-variants.{Boundary, Header, Value, End, Unreadable}
 use Rattle.tlv_chunks.specs.declared.walk.ChunkTaken.{ChunkTaken}
+use Rattle.tlv_chunks.proofs.Calls.{call-said}
 use Rattle.tlv_chunks_laws.specs.Session.{stoppedBy, onceAfter}
 use Rattle.tlv_chunks_laws.proofs.Runs.{run-stopped}
 
@@ -105,10 +106,5 @@ take-goes End s = again End 11 refl s (λ es. refl)
 take-goes Unreadable s = again Unreadable 12 refl s (λ es. refl)
 
 -- the same of an answer that `take` promises
-abbrev pub callOf : ChunkTaken → Call
-callOf x = answerCall (x .answer) (x .taken) (x .walk)
-
 pub answer-goes : (w : ChunkWalk) (s : List ℕ) (x : ChunkTaken) → take-is w s x → Goes w (run w s) s (callOf x)
-answer-goes w s x p =
-    let same : takeOf w s ≡ callOf x = sym (λ i. record { tells = p .tells i; taken = p .taken i; walk = p .walk i }) in
-    subst (Goes w (run w s) s) same (take-goes w s)
+answer-goes w s x p = subst (Goes w (run w s) s) (call-said (takeOf w s) x p) (take-goes w s)

@@ -132,6 +132,14 @@ module _ (k : ℕ) (es : List Event) where
   unfolding onceAfter
   once-end = refl
 
+pub once-nothing : once [] ≡ []
+unfolding onceAfter
+once-nothing = refl
+
+pub once-alone : (k : ℕ) → once (refusal k ∷ []) ≡ refusal k ∷ []
+unfolding onceAfter
+once-alone k = refl
+
 pub once-first-head : (t n : ℕ) (es : List Event) → once (head t n ∷ es) ≡ head t n ∷ once es
 unfolding onceAfter
 once-first-head t n es = refl

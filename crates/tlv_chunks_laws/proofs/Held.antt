@@ -55,9 +55,6 @@ length-bound s b =
 
 -- the state after the bytes of a record
 module _ (s : List ℕ) (bytes : Bytes s) where
-  abbrev state : ChunkWalk
-  state = run Boundary s .walk
-
   abbrev rest : List ℕ
   rest = drop (walk Crate 0 s .stop .place) s
 

@@ -1,5 +1,5 @@
 use borrow.Author.Needs.{needs}
-use Rattle.tlv_chunks_abi.specs.Numbers.{callSaid}
+use Rattle.tlv_chunks.specs.Call.{callOf}
 use Rattle.tlv_chunks_abi.proofs.Rows.{row-said, row-told}
 use Rattle.tlv_chunks_abi.proofs.tell_answer.Statement.{statement}
 use Rattle.tlv_chunks_abi.proofs.tell_answer.Tie as tie
@@ -10,7 +10,7 @@ returns c =
     let s = t .before .before .before in
     let w = s .before in
     let n = w .before in
-    let x = callSaid (n .before .before .args .call) in
+    let x = callOf (n .before .before .args .call) in
     row-told _ x _ _ _ (t .tell-row .ensures)
     (row-said x _ _ _ (s .told-status .ensures) (n .told-numbers .ensures) (w .walk-numbers .ensures))
 
