@@ -2,10 +2,12 @@
 // and -4, EMV and ICAO 9303, and records of payment and travel cards. It also runs commands and objects written into
 // buffers (rules 3.3 to 3.9 and 7.1 to 7.3), responses (rules 13.1 to 13.5), exchanges with a card (rules 14.1 to
 // 14.8), places in records (rules 15.1 to 15.5), zero bytes between objects (rules 16.1 to 16.6), indexes (rules 17.1 to
-// 17.10), and records in chunks (rules 18.1 to 18.7). It prints for each what was expected and what was found.
+// 17.10), records in chunks (rules 18.1 to 18.7), and calibration records (rules 19.1 to 19.9). It prints for each what
+// was expected and what was found.
 //
 // The cases are the lines of standard input, crates/vectors/stdin, which says at its top how each kind is written.
 mod alone;
+mod balances;
 mod chunks;
 mod commands;
 mod cuts;
@@ -40,6 +42,10 @@ fn line(line: &[u8]) {
         b'g' => indexes::given(line),
         b'd' => chunks::divided(line),
         b'k' => chunks::kept(line),
+        b'n' => balances::note(line),
+        b'q' => balances::question(line),
+        b'h' => balances::holder(line),
+        b'a' => balances::assembled(line),
         _ => report::unknown(line),
     }
 }

@@ -96,7 +96,7 @@ fn with_digit(n: u32, decimal: bool, digit: u8) -> u32 {
         }
         return n;
     }
-    n % 0x1000000 * 16 + digit as u32 % 16
+    n % 0x10000000 * 16 + digit as u32 % 16
 }
 
 // Adds one character to number n, and returns which number comes next; a comma ends a number.

@@ -53,7 +53,7 @@ fn show_object(
 }
 
 // Prints the first bytes of a buffer, as many as `len`, and the end of the line.
-fn show_buffer(buffer: &[u8], len: u32, expected: &[u8], at: usize) {
+pub(crate) fn show_buffer(buffer: &[u8], len: u32, expected: &[u8], at: usize) {
     let at = report::word(expected, at, b" in ");
     let at = report::hex(expected, at, text::part(buffer, 0, len as usize));
     report::verdict(expected, at);

@@ -1,4 +1,4 @@
-//! Bytes and numbers that are printed in hex.
+//! Bytes and numbers that are printed in hex, and bytes that are written in it.
 
 use std::fmt;
 use std::ops::Deref;
@@ -36,4 +36,11 @@ impl fmt::Debug for Hex<'_, u32> {
     fn fmt(&self, f: &mut fmt::Formatter<'_>) -> fmt::Result {
         write!(f, "{:X?}", self.0)
     }
+}
+
+/// Bytes from pairs of hex digits with blanks anywhere between them.
+pub fn unhex(digits: &str) -> Vec<u8> {
+    let digits: String = digits.split_whitespace().collect();
+    let byte = |at: usize| u8::from_str_radix(&digits[at..at + 2], 16).unwrap();
+    (0..digits.len()).step_by(2).map(byte).collect()
 }

@@ -17,7 +17,8 @@ pub const LEAST: u64 = 1_000;
 const LEAST_SHORT: u64 = 1;
 
 /// The numbers of refusal that the library gives. 20 belongs to the listing.
-const REFUSALS: [u8; 24] = [1, 2, 3, 4, 5, 6, 7, 8, 9, 10, 11, 12, 13, 14, 15, 16, 17, 18, 19, 21, 22, 23, 24, 25];
+const REFUSALS: [u8; 26] =
+    [1, 2, 3, 4, 5, 6, 7, 8, 9, 10, 11, 12, 13, 14, 15, 16, 17, 18, 19, 21, 22, 23, 24, 25, 26, 27];
 
 /// The options of a run.
 pub struct Options {

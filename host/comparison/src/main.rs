@@ -25,6 +25,7 @@ mod benchmark;
 #[cfg(feature = "coverage")]
 mod branches;
 mod builder;
+mod calibration;
 mod call;
 mod class;
 mod collect;
@@ -54,13 +55,14 @@ use crate::recording::Recording;
 use crate::tally::Tally;
 
 /// The jobs of the short run. Those that take longest are first.
-const SHORT_RUN: [Job; 11] = [
+const SHORT_RUN: [Job; 12] = [
     tlv::compare,
     tlv_chunks::compare,
     splitter::compare,
     builder::compare,
     command::compare,
     reassembler::compare,
+    calibration::compare,
     tlv_index::compare,
     collect::compare,
     response::compare,
@@ -69,7 +71,7 @@ const SHORT_RUN: [Job; 11] = [
 ];
 
 /// The kinds of random cases. There are equally many of each kind.
-const RANDOM_KINDS: [(&str, Job); 14] = [
+const RANDOM_KINDS: [(&str, Job); 15] = [
     ("class and AID", class_and_aid),
     ("command, parsed and owned", command::random_cases),
     ("command, extended", command::random_extensions),
@@ -84,6 +86,7 @@ const RANDOM_KINDS: [(&str, Job); 14] = [
     ("pieces, joined", reassembler::random_cases),
     ("responses", response::random_cases),
     ("responses, collected", collect::random_cases),
+    ("calibration records", calibration::random_cases),
 ];
 
 /// The jobs that are recorded, and how often each is run.
@@ -106,7 +109,7 @@ const RECORDED: [(usize, Job); 15] = [
 ];
 
 /// What is timed, in the order of the lines.
-const TIMED: [fn(&mut Table); 11] = [
+const TIMED: [fn(&mut Table); 12] = [
     class::bench,
     aid::bench,
     command::bench,
@@ -118,6 +121,7 @@ const TIMED: [fn(&mut Table); 11] = [
     tlv::bench,
     tlv_index::bench,
     tlv_chunks::bench,
+    calibration::bench,
 ];
 
 fn class_and_aid(tally: &mut Tally, random: &mut Random) {
@@ -144,7 +148,8 @@ fn compare(options: &Options) -> bool {
     println!("seed {}, random cases asked for {}", options.seed, options.cases);
     let results = jobs::run(options, &SHORT_RUN, &RANDOM_KINDS);
     let of_records = tlv::required_replies().chain(tlv_index::required_replies());
-    let failed = results.print(of_records.chain(tlv_chunks::required_replies()));
+    let of_records = of_records.chain(tlv_chunks::required_replies()).chain(calibration::required_replies());
+    let failed = results.print(of_records);
     #[cfg(feature = "coverage")]
     let failed = branches::print(&results.branches, results.least()) || failed;
     failed

@@ -20,7 +20,7 @@
 //! | 13 | the data of the command to build are above 65,535 bytes |
 //! | 14 | splitting one step: a buffer under 4, or no room for data in it; a chain: a buffer under 10 |
 //! | 15 | extended length is forced, but unsupported |
-//! | 16 | a buffer for the answer is too short; an object, a command or an index does not fit from the given place |
+//! | 16 | a buffer for the answer is too short; an object, a command, an index or a record does not fit from a place |
 //! | 17 | the piece does not continue the open chain |
 //! | 18 | the held data and the new data together exceed the room |
 //! | 19 | the value to write is above 65,535 bytes |
@@ -29,12 +29,16 @@
 //! | 23 | the collected data and the new data together exceed the room |
 //! | 24 | the record to index is above 65,535 bytes, or more than 255 objects can be read at its top level |
 //! | 25 | the index has another form, or the entry that a lookup uses lies outside of the record |
+//! | 26 | the record is not of the calibration profile; its serial to write has no bytes or more than 16 |
+//! | 27 | there is no such date in the years 2000 to 2099: the due date of a calibration record, or a given one |
 //!
 //! If several apply, the smallest is replied. But 2 comes after 3, 4 and 5, 16 comes after 19 when an object is
-//! written, and 16 of the buffer comes after 24 when an index is written.
+//! written, 16 of the buffer comes after 24 when an index is written, and 16 of the bytes copied or written comes after
+//! 26 and 27.
 
 mod aid;
 mod builder;
+mod calibration;
 mod class;
 mod collect;
 mod command;
@@ -49,6 +53,10 @@ pub use aid::{aid, aid_matches, aid_part, aid_whole, AID_NUMBERS};
 pub use builder::{
     builder_eq, force_extended, required_len, serialize_into, EXPECTED_MAX, EXTENDED_FORCED, EXTENDED_SUPPORTED,
     SHORT_ONLY,
+};
+pub use calibration::{
+    due_shown, due_shown_from, has_lapsed, profile_serial, put_profile, read_profile, CALIBRATION_NUMBERS, CARD, DESK,
+    DUE_BYTES, PROFILE_BYTES, PROFILE_NUMBERS, SHOWN_NUMBERS,
 };
 pub use class::{class, class_as_chained, class_constants, range, CLASS_CONSTANTS, CLASS_NUMBERS};
 pub use collect::{collect_start, collected, Collection, COLLECTION_NUMBERS, COLLECT_NUMBERS, COMMAND, GET_RESPONSE};
@@ -85,8 +93,8 @@ pub const CRATE_READING: u8 = 0;
 pub const STANDARD_READING: u8 = 1;
 
 /// Calls an exported function by its name without the prefix, and returns the number of its reply. Each argument has a
-/// kind: the type of a number; `header` or `tag`, passed as its bytes; `bytes` or `tags` to read, `room` or `numbers`
-/// to write, passed as a pointer and a length.
+/// kind: the type of a number; `header` or `tag`, passed as its bytes; `date`, passed as its three numbers; `bytes` or
+/// `tags` to read, `room` or `numbers` to write, passed as a pointer and a length.
 macro_rules! call {
     ($name:ident $(, $kind:ident $arg:expr)*) => {
         crate::call!(@ $name [] [] $($kind $arg,)*)
@@ -105,6 +113,9 @@ macro_rules! call {
     };
     (@ $name:ident [$($t:tt)*] [$($v:tt)*] tag $arg:expr, $($more:tt)*) => {
         crate::call!(@ $name [$($t)* u8, u8, u8,] [$($v)* $arg[0], $arg[1], $arg[2],] $($more)*)
+    };
+    (@ $name:ident [$($t:tt)*] [$($v:tt)*] date $arg:expr, $($more:tt)*) => {
+        crate::call!(@ $name [$($t)* u32, u32, u32,] [$($v)* $arg[0], $arg[1], $arg[2],] $($more)*)
     };
     (@ $name:ident [$($t:tt)*] [$($v:tt)*] bytes $arg:expr, $($more:tt)*) => {
         crate::call!(@ $name [$($t)* *const u8, usize,] [$($v)* $arg.as_ptr(), $arg.len(),] $($more)*)
@@ -131,6 +142,9 @@ macro_rules! kind {
     };
     (tag) => {
         [u8; 3]
+    };
+    (date) => {
+        [u32; 3]
     };
     (bytes) => {
         &[u8]

@@ -237,3 +237,63 @@ pub fn file() -> Vec<Argument> {
     });
     built.chain([vec![], vec![0; 12]]).map(Argument::Bytes).collect()
 }
+
+/// A calibration record with a serial of `n` bytes and these four bytes of a due date.
+fn profile_due(n: u8, due: [u8; 4]) -> Vec<u8> {
+    let serial = vec![0x5F; n.into()];
+    [&[0xE1, n + 14, 0xC1, n], &serial[..], &[0xC2, 4], &due, &[0xC3, 4, 0x00, 0x03, 0x0D, 0x40]].concat()
+}
+
+/// Calibration records: good ones; with dates that there are not, by each part of a date; with a serial of no bytes and
+/// of too many; cut, too long, and with each of the tags and lengths changed.
+pub fn profile() -> Vec<Argument> {
+    let good = profile_due(1, [0x20, 0x26, 0x12, 0x31]);
+    let dates = [
+        [0x20, 0x00, 0x02, 0x29],
+        [0x20, 0x26, 0x02, 0x29],
+        [0x20, 0x26, 0x04, 0x31],
+        [0x20, 0x26, 0x13, 0x01],
+        [0x20, 0x26, 0x00, 0x01],
+        [0x20, 0x26, 0x12, 0x00],
+        [0x20, 0x26, 0x12, 0x2A],
+        [0x20, 0x26, 0x0A, 0x01],
+        [0x20, 0x2A, 0x12, 0x31],
+        [0x1A, 0x26, 0x12, 0x31],
+        [0x19, 0x99, 0x12, 0x31],
+        [0x21, 0x00, 0x01, 0x01],
+    ];
+    let dated = dates.map(|due| profile_due(1, due));
+    let of_lengths = [0, 2, 16, 17].map(|n| profile_due(n, [0x20, 0x24, 0x02, 0x29]));
+    let changed = [0, 1, 2, 3, 5, 6, 11, 12].map(|at| {
+        let mut copy = good.clone();
+        copy[at] ^= 1;
+        copy
+    });
+    let others = [vec![], good[..16].to_vec(), [&good[..], &[0]].concat(), good];
+    [&dated[..], &of_lengths, &changed, &others].concat().into_iter().map(Argument::Bytes).collect()
+}
+
+/// Years: of the calendar, leap years and others, and those next to it.
+pub fn year() -> Vec<Argument> {
+    numbers([1999, 2000, 2026, 2099, 2100])
+}
+
+/// Months: of 28 or 29, 30 and 31 days, and none.
+pub fn month() -> Vec<Argument> {
+    numbers([0, 2, 4, 12, 13])
+}
+
+/// Days: in every month, in some, and in none.
+pub fn day() -> Vec<Argument> {
+    numbers([0, 1, 29, 30, 31, 32])
+}
+
+/// A capacity, on which nothing depends.
+pub fn capacity() -> Vec<Argument> {
+    numbers([200_000])
+}
+
+/// Serials, and refused ones.
+pub fn serial() -> Vec<Argument> {
+    [0, 1, 16, 17].map(|len| Argument::Bytes(vec![0x5F; len])).into()
+}

@@ -76,4 +76,10 @@ exported! {
     get_indexed(file, record, path, out);
     take_chunk(walk_kind, walk_tag, walk_number, chunk, out);
     close_chunks(walk_kind, walk_tag, walk_number, out);
+    read_profile(profile, out);
+    profile_serial(profile, buffer, out);
+    has_lapsed(profile, year, month, day, out);
+    due_shown(profile, profile, buffer, out);
+    due_shown_from(profile, profile, out);
+    put_profile(serial, year, month, day, capacity, buffer, place, out);
 }

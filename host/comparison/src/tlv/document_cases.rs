@@ -11,6 +11,7 @@ use super::take::{Len, Object, Tag, Take};
 use super::writing::{self, put_data_object};
 use crate::answer::Writes;
 use crate::call::Call;
+use crate::hex::unhex;
 use crate::loops::pairs;
 use crate::random::Random;
 use crate::tally::Tally;
@@ -201,12 +202,6 @@ const REQUEST_2: [LookupRow; 33] = [
     (VECTORS, "", &[0xC1], [Err((11, 0, 0)); 2]),
     (VECTORS, "", &[], [Ok((0, &[], 0)); 2]),
 ];
-
-/// Bytes from pairs of hex digits with blanks between them.
-fn unhex(digits: &str) -> Vec<u8> {
-    let bytes = digits.split_whitespace();
-    bytes.map(|byte| u8::from_str_radix(byte, 16).unwrap()).collect()
-}
 
 /// Compares what is taken from the front of some bytes with a table. `take` makes it for a reading.
 fn takes<const N: usize, F: Take<N>>(tally: &mut Tally, take: fn(u8) -> F, rows: &[TakeRow<N>]) {

@@ -9,16 +9,12 @@ use super::told::Event::{self, End, Head, Refused};
 use super::told::Joined;
 use crate::answer::Told;
 use crate::call::Call;
+use crate::hex::unhex;
 use crate::tally::Tally;
 
 const CASES: &str = "a record in chunks, case by case (checked against document 02)";
 const VECTORS: &str = "the vectors of request 6 (checked against the request's page)";
 const ROWS: &str = "chunks: one call, number by number (checked against a table)";
-
-/// Bytes from pairs of hex digits with blanks between them.
-fn unhex(digits: &str) -> Vec<u8> {
-    digits.split_whitespace().map(|pair| u8::from_str_radix(pair, 16).unwrap()).collect()
-}
 
 const fn state(kind: u8, tag: u32, number: u16) -> ChunkWalk {
     ChunkWalk { kind, tag, number }

@@ -5,17 +5,11 @@ use gorvisclen::LOOKUP_NUMBERS;
 use super::operations::{build, check, get_indexed, Indexed};
 use crate::answer::{Answer, Told, Writes};
 use crate::call::Call;
+use crate::hex::unhex;
 use crate::tally::Tally;
 
 const CASES: &str = "an index beside the record, case by case (checked against document 02)";
 const VECTORS: &str = "the vectors of request 4 (checked against the request's page)";
-
-/// Bytes from pairs of hex digits with blanks anywhere between them.
-fn unhex(digits: &str) -> Vec<u8> {
-    let digits: String = digits.split_whitespace().collect();
-    let byte = |at: usize| u8::from_str_radix(&digits[at..at + 2], 16).unwrap();
-    (0..digits.len()).step_by(2).map(byte).collect()
-}
 
 /// The label of a case, a record in hex, and its file in hex.
 type BuildRow = (&'static str, &'static str, &'static str);

@@ -1,0 +1,2 @@
+-- What a host program gets of a calibration record.
+pub mod Numbers
