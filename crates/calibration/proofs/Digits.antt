@@ -1,7 +1,7 @@
 -- Laws of packed decimal: digits and numbers correspond one to one (rules 19.3 and 19.10).
 use Prim.Native.Nat.{ℕ, _+_, _*_, _/_, _%_, _≤_, _<_}
 use mathlib.Core.Path.{_≡_, refl, sym, ap, _∙_}
-use mathlib.Core.Bool.{Bool, true, false, cond, _&&_, and-eq-true-iff}
+use mathlib.Core.Bool.{true, false, _&&_, and-eq-true-iff}
 use mathlib.Core.List.{List, [], _∷_}
 use native.Mathlib.Omega.{arith}
 use lib.Dec.{leb}
@@ -10,7 +10,7 @@ use borrow.Author.Tests.{leb-true, le-leb}
 use Rattle.basis.specs.Reply.{Reply, ok, refused}
 use Rattle.basis.specs.Number.{number}
 use Rattle.basis.proofs.Truth.{on-cond}
-use Rattle.calibration.specs.Date.{daysIn, isReal, isDecimal, twoDigits, arePacked, dateIn, dateOf, packed, dateBytes}
+use Rattle.calibration.specs.Date.{isReal, isDecimal, twoDigits, arePacked, dateIn, dateOf, packed, dateBytes}
 use Rattle.calibration.specs.declared.date.Date.{Date}
 use Rattle.calibration.proofs.Calendar.{Real, real-says, month-most, days-bound}
 

@@ -6,7 +6,6 @@ use mathlib.Core.List.{List, [], _∷_, _++_, append-assoc}
 use native.Mathlib.Omega.{arith}
 use lib.ListN.{length, length-append}
 use borrow.Author.Tests.{lt-ltb, le-ltb}
-use Rattle.basis.specs.Reply.{ok, refused}
 use Rattle.basis.specs.Number.{be}
 use Rattle.basis.specs.Over.{over, overAt}
 use Rattle.basis.proofs.Number.{length-be}

@@ -1,9 +1,9 @@
 -- Dates: real ones of the Gregorian calendar in the years 2000 to 2099 (rule 19.4), their bytes in packed decimal (rule
 -- 19.3), and the number of a day, by which dates are compared (rule 19.6).
 use Prim.Native.Nat.{ℕ, zero, suc, _+_, _-_, _*_, _/_, _%_}
-use mathlib.Core.Bool.{Bool, true, false, cond, _&&_}
+use mathlib.Core.Bool.{Bool, cond, _&&_}
 use mathlib.Core.List.{List, [], _∷_}
-use lib.Dec.{leb, eqb}
+use lib.Dec.{ltb, leb, eqb}
 use lib.ListN.{getD}
 use Rattle.basis.specs.Reply.{Reply, ok, refused}
 use Rattle.calibration.specs.declared.date.Date.{Date}
@@ -39,6 +39,10 @@ yearDays y = sumTo 13 (daysIn y)
 -- before, and of the month (rule 19.6)
 unfoldable pub dayNumber : Date → ℕ
 dayNumber d = sumTo (d .year - 2000) (λ k. yearDays (2000 + k)) + sumTo (d .month) (daysIn (d .year)) + (d .day - 1)
+
+-- whether a date is earlier than another one: its day has the smaller number (rule 19.6)
+unfoldable pub isEarlier : Date → Date → Bool
+isEarlier d e = ltb (dayNumber d) (dayNumber e)
 
 -- whether a byte has two decimal digits, and the number that they say (rule 19.3)
 unfoldable pub isDecimal : ℕ → Bool

@@ -3,17 +3,12 @@ use mathlib.Core.Path.{_≡_}
 use mathlib.Core.Bool.{Bool, cond}
 use mathlib.Core.List.{List}
 use Prim.Native.Nat.{ℕ}
-use lib.Dec.{ltb}
 use Rattle.basis.specs.Reply.{Reply, ok, refused, then}
-use Rattle.calibration.specs.Date.{isReal, dayNumber}
+use Rattle.calibration.specs.Date.{isReal, isEarlier}
 use Rattle.calibration.specs.Profile.{fieldsOf}
 use Rattle.calibration.specs.declared.date.Date.{Date}
 use Rattle.calibration.specs.declared.lapsed.HasLapsed.{HasLapsed}
 use Rattle.calibration.specs.declared.lapsed.HasLapsed.the-variants as lapsed
-
--- whether a date is earlier than another one: its day has the smaller number
-unfoldable pub isEarlier : Date → Date → Bool
-isEarlier d e = ltb (dayNumber d) (dayNumber e)
 
 -- whether a record has lapsed on a date: its refusals, then 27 if there is no such date (rule 19.6)
 unfoldable pub lapsedOf : List ℕ → Date → Reply Bool

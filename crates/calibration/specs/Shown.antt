@@ -4,7 +4,7 @@ use mathlib.Core.Path.{_≡_}
 use mathlib.Core.List.{List, []}
 use lib.ListN.{take, drop}
 use Rattle.basis.specs.Reply.{Reply, ok, refused, then}
-use Rattle.calibration.specs.Profile.{Fields, duePlace, fieldsOf}
+use Rattle.calibration.specs.Profile.{duePlace, fieldsOf}
 use Rattle.calibration.specs.declared.shown.DueShownFrom.{DueShownFrom}
 use Rattle.calibration.specs.declared.shown.DueShownFrom.the-variants as from
 

@@ -4,8 +4,7 @@ ghost use mathlib.Core.Path.{_≡_};
 ghost use mathlib.Core.Bool.{true};
 ghost use Prim.Native.Nat.{_≤_, _<_};
 ghost use lib.ListN.{length};
-ghost use lib.Dec.{ltb};
-ghost use Rattle.calibration.specs.Date.{daysIn, isReal, dayNumber, isDecimal, twoDigits, arePacked, dateIn, dateOf, dateReply, packed, dateBytes};
+ghost use Rattle.calibration.specs.Date.{daysIn, isReal, isEarlier, isDecimal, twoDigits, arePacked, dateIn, dateOf, dateReply, packed, dateBytes};
 
 // Three numbers: a year, a month and a day. Where a date is taken, it is tested whether there is such a date.
 pub struct Date {
@@ -58,7 +57,7 @@ pub(crate) fn is_real(date: Date) -> bool
 // Whether a date is earlier than another one: by year, then by month, then by day (rule 19.6).
 pub(crate) fn is_earlier(date: Date, other: Date) -> bool
     requires { ⌜ (isReal date ≡ true) × (isReal other ≡ true) ⌝ }
-    ensures { λ r. ⌜ r ≡ ltb (dayNumber date) (dayNumber other) ⌝ }
+    ensures { λ r. ⌜ r ≡ isEarlier date other ⌝ }
 {
     if date.year != other.year {
         return date.year < other.year;

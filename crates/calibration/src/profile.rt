@@ -1,6 +1,6 @@
 // A calibration record read: exactly E1 with C1, C2 and C3 in that order (rules 19.1, 19.2 and 19.5).
 ghost use mathlib.Core.Path.{_≡_};
-ghost use mathlib.Core.Bool.{_&&_, true};
+ghost use mathlib.Core.Bool.{_&&_};
 ghost use Prim.Native.Nat.{_+_, _≤_, _<_};
 ghost use lib.Dec.{eqb};
 ghost use lib.ListN.{length, getD};

@@ -24,7 +24,7 @@ pub fn due_shown_from(card: &[u8], desk: &[u8]) -> DueShownFrom
 }
 
 // The four bytes of the due date shown, as that very part of the card's record or of the desk's; no bytes if both are
-// refused (rule 19.7).
+// refused (rules 19.7 and 12.16).
 pub fn due_shown<'a>(card: &'a [u8], desk: &'a [u8]) -> &'a [u8]
     ensures { λ r. ⌜ due-shown-is (now (card .entry)) (now (desk .entry)) (now r) ⌝ }
 {

@@ -11,9 +11,9 @@ use lib.Seq.{length-take-le}
 use Rattle.basis.specs.Reply.{ok, refused}
 use Rattle.basis.specs.Over.{over, overAt}
 use Rattle.abi.specs.Answers.{NumbersWritten, ReplyCopied}
-use Rattle.calibration.specs.Date.{isReal, dayNumber, dateOf, packed, dateBytes}
+use Rattle.calibration.specs.Date.{isReal, dayNumber, dateOf, packed, dateBytes, isEarlier}
 use Rattle.calibration.specs.Profile.{Fields, fields, object, isProfile, duePlace, dueOf, fieldsOf, recordOf}
-use Rattle.calibration.specs.Lapsed.{isEarlier, lapsedOf}
+use Rattle.calibration.specs.Lapsed.{lapsedOf}
 use Rattle.calibration.specs.Shown.{card, desk, whoseOf}
 use Rattle.calibration.specs.Put.{putOf}
 use Rattle.calibration.specs.declared.date.Date.{Date}

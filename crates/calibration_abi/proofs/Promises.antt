@@ -11,9 +11,9 @@ use Rattle.basis.specs.Reply.{Reply, ok, refused, then}
 use Rattle.basis.specs.Over.{over}
 use Rattle.basis.proofs.Truth.{on-cond}
 use Rattle.abi.specs.Answers.{tooShort, NumbersWritten, BytesCopied, ReplyCopied}
-use Rattle.calibration.specs.Date.{isReal}
+use Rattle.calibration.specs.Date.{isReal, isEarlier}
 use Rattle.calibration.specs.Profile.{duePlace, fieldsOf}
-use Rattle.calibration.specs.Lapsed.{isEarlier, lapsedOf}
+use Rattle.calibration.specs.Lapsed.{lapsedOf}
 use Rattle.calibration.specs.Shown.{card, desk, orElse, whoseOf}
 use Rattle.calibration.specs.declared.date.Date.{Date}
 use Rattle.calibration.proofs.Read.{by-form}

@@ -1,5 +1,5 @@
 -- The fault of the booking system: 9 October and 10 November, compared as text and by the calendar (rule 19.6).
-use Prim.Native.Nat.{ℕ, _<_}
+use Prim.Native.Nat.{ℕ}
 use mathlib.Core.Path.{_≡_, refl, sym}
 use mathlib.Core.Bool.{true, false}
 use mathlib.Core.List.{List, [], _∷_}
@@ -7,9 +7,9 @@ use Rattle.basis.specs.Ascii.{ascii}
 use Rattle.basis.specs.Reply.{ok}
 use Rattle.basis.specs.Number.{number}
 use Rattle.byte_slices.specs.Slices.{same}
-use Rattle.calibration.specs.Date.{isLeap, monthDays, daysIn, isReal, sumTo, yearDays, dayNumber, isDecimal, twoDigits, arePacked, dateIn, dateOf}
+use Rattle.calibration.specs.Date.{isLeap, monthDays, daysIn, isReal, sumTo, yearDays, dayNumber, isEarlier, isDecimal, twoDigits, arePacked, dateIn, dateOf}
 use Rattle.calibration.specs.Profile.{object, template, isSerialLen, isProfile, fieldsOf}
-use Rattle.calibration.specs.Lapsed.{isEarlier, lapsedOf, has-lapsed-is}
+use Rattle.calibration.specs.Lapsed.{lapsedOf, has-lapsed-is}
 use Rattle.calibration.specs.declared.lapsed.HasLapsed.{HasLapsed}
 use Rattle.calibration.specs.declared.lapsed.HasLapsed.the-variants as lapsed
 use Rattle.calibration.proofs.OneReply.{has-lapsed}

@@ -3,13 +3,11 @@
 use Prim.Native.Nat.{ℕ, _+_}
 use mathlib.Core.Path.{_≡_, refl, sym, ap, _∙_}
 use mathlib.Core.List.{List, []}
-use native.Mathlib.Omega.{arith}
 use lib.ListN.{take, drop}
-use Rattle.basis.specs.Reply.{Reply, ok, refused}
+use Rattle.basis.specs.Reply.{ok}
 use Rattle.calibration.specs.Date.{dateIn}
 use Rattle.calibration.specs.Profile.{Fields, dueOf, fieldsOf, asReply, read-profile-is}
-use Rattle.calibration.specs.Shown.{card, desk, whoseOf, shownIn, due-shown-from-is, due-shown-is}
-use Rattle.calibration.specs.declared.date.Date.{Date}
+use Rattle.calibration.specs.Shown.{shownIn, due-shown-from-is, due-shown-is}
 use Rattle.calibration.specs.declared.profile.Profile.{Profile}
 use Rattle.calibration.specs.declared.profile.ReadProfile.{ReadProfile}
 use Rattle.calibration.specs.declared.profile.ReadProfile.the-variants as read

@@ -1,21 +1,19 @@
 -- The form of a record in plain words, and when a record is refused (rules 19.1 and 19.5).
-use Prim.Native.Nat.{ℕ, _+_, _-_, _≤_, _<_}
+use Prim.Native.Nat.{ℕ, _+_, _-_, _≤_}
 use mathlib.Core.Path.{_≡_, refl, sym, ap, _∙_, subst}
 use mathlib.Core.Logic.{_↔_, _⊎_, inl, inr}
 use mathlib.Core.Bool.{true, false, true≢false, _&&_}
-use mathlib.Core.List.{List, [], _∷_, _++_}
+use mathlib.Core.List.{List, _∷_, _++_}
 use native.Mathlib.Omega.{arith}
 use lib.ListN.{length, length-append, take, drop}
-use Rattle.basis.specs.Reply.{Reply, ok, refused}
+use Rattle.basis.specs.Reply.{Reply, refused}
 use Rattle.basis.proofs.Reply.{refused-not-ok}
-use Rattle.basis.proofs.Truth.{same-truth}
-use Rattle.calibration.specs.Date.{isReal, arePacked, dateIn, dateOf, dateBytes}
+use Rattle.calibration.specs.Date.{isReal, arePacked, dateIn, dateBytes}
 use Rattle.calibration.specs.Profile.{Fields, object, template, serialLen, serialOf, dueOf, capacityOf, isProfile, fieldsOf}
-use Rattle.calibration.specs.declared.date.Date.{Date}
-use Rattle.calibration.proofs.Form.{Heads, Formed, profile-formed, all-heads, template-size, template-parts, serial-size, due-size, capacity-size}
+use Rattle.calibration.proofs.Form.{Heads, profile-formed, all-heads, template-size, template-parts, serial-size, due-size, capacity-size}
 use Rattle.calibration.proofs.Digits.{date-back, date-packed, bytes-back}
 use Rattle.calibration.proofs.Read.{by-form}
-use Rattle.calibration_laws.specs.Plain.{RealDate, digitBytes, formBytes, OfForm, NoDate}
+use Rattle.calibration_laws.specs.Plain.{formBytes, OfForm, NoDate}
 use Rattle.calibration_laws.proofs.RealDates.{real-date, bounds, date-digits}
 
 -- the template in plain bytes

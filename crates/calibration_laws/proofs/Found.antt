@@ -6,23 +6,23 @@ use mathlib.Core.List.{List, [], _∷_, _++_, append-nil}
 use native.Mathlib.Omega.{arith}
 use lib.ListN.{length, take, drop, getD, length-append, List·getD-append}
 use lib.Seq.{drop-at, take-length}
-use Rattle.basis.specs.Reply.{Told, Reply, ok, refused}
+use Rattle.basis.specs.Reply.{ok, refused}
 use Rattle.basis.specs.Number.{be}
 use Rattle.basis.proofs.Number.{bytes-none, bytes-more}
 use Rattle.tlv.specs.Padding.{padding, zeros}
 use Rattle.tlv.specs.Tag.{tagOf, tagAlone}
-use Rattle.tlv.specs.Object.{Item, nextOf, sizeOf}
-use Rattle.tlv.specs.Lookup.{Span, seek, follow, searched, lookup, get-data-object-is, valueIn, value-is}
+use Rattle.tlv.specs.Object.{Item, nextOf}
+use Rattle.tlv.specs.Lookup.{seek, follow, lookup, get-data-object-is, valueIn, value-is}
 use Rattle.tlv.specs.declared.Reading.{Reading}
 use Rattle.tlv.specs.declared.Reading.the-variants.{Crate, Standard}
 use Rattle.tlv.specs.declared.lookup.GetDataObject.{GetDataObject}
 use Rattle.tlv.specs.declared.lookup.GetDataObject.the-variants as get
 use Rattle.tlv.proofs.Walk.{seek-here, seek-next}
 use Rattle.tlv.proofs.OneReply.{get-data-object}
-use Rattle.tlv_write.specs.Written.{tagBytes, lenBytes, objectBytes}
+use Rattle.tlv_write.specs.Written.{tagBytes, objectBytes}
 use Rattle.tlv_write.proofs.Shown.{len-one}
 use Rattle.tlv_laws.specs.Padding.{zeroBytes, movedLookup}
-use Rattle.tlv_laws.specs.ReadBack.{written, objectFor}
+use Rattle.tlv_laws.specs.ReadBack.{written}
 use Rattle.tlv_laws.proofs.ZeroBytes.{zeros-lookup}
 use Rattle.tlv_laws.proofs.ReadBack.{written-read}
 use Rattle.calibration.specs.Profile.{Fields, object, template, serialOf, dueOf, capacityOf, fieldsOf, read-profile-is}

@@ -1,17 +1,15 @@
 -- What `has_lapsed` answers, in plain words, over its promise and that of `read_profile` (rule 19.6).
 use Prim.Native.Nat.{ℕ, _≤_, _<_}
-use mathlib.Core.Path.{_≡_, refl, sym, ap, _∙_}
+use mathlib.Core.Path.{_≡_, sym, ap, _∙_}
 use mathlib.Core.Logic.{_↔_}
-use mathlib.Core.Bool.{Bool, true, false, true≢false}
+use mathlib.Core.Bool.{Bool, true, false}
 use mathlib.Core.List.{List}
-use native.Mathlib.Decide.{decLe}
 use native.Mathlib.Omega.{arith}
 use lib.Dec.{ltb}
 use borrow.Author.Tests.{ltb-true, ltb-false, lt-ltb, le-ltb}
-use Rattle.basis.specs.Reply.{Reply, ok, refused}
-use Rattle.calibration.specs.Date.{isReal, dayNumber}
-use Rattle.calibration.specs.Profile.{fieldsOf, read-profile-is}
-use Rattle.calibration.specs.Lapsed.{isEarlier, lapsedOf, asReply, has-lapsed-is}
+use Rattle.calibration.specs.Date.{isReal, dayNumber, isEarlier}
+use Rattle.calibration.specs.Profile.{read-profile-is}
+use Rattle.calibration.specs.Lapsed.{lapsedOf, has-lapsed-is}
 use Rattle.calibration.specs.declared.date.Date.{Date}
 use Rattle.calibration.specs.declared.profile.Profile.{Profile}
 use Rattle.calibration.specs.declared.profile.ReadProfile.{ReadProfile}

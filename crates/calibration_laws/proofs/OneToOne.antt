@@ -1,17 +1,15 @@
 -- Fields and bytes correspond one to one: a record is accepted exactly if it is built of some fields (rule 19.10).
-use Prim.Native.Nat.{ℕ, _+_, _*_, _/_, _%_, _≤_, _<_}
+use Prim.Native.Nat.{ℕ, _+_, _/_, _%_, _<_}
 use mathlib.Core.Path.{_≡_, refl, sym, ap, _∙_, subst}
 use mathlib.Core.Logic.{_↔_}
-use mathlib.Core.Bool.{true}
-use mathlib.Core.List.{List, [], _∷_, _++_}
+use mathlib.Core.List.{List, [], _∷_}
 use native.Mathlib.Omega.{arith}
-use lib.ListN.{length, take, drop, getD}
-use Rattle.basis.specs.Reply.{Reply, ok, refused, then}
+use lib.ListN.{length, drop, getD}
+use Rattle.basis.specs.Reply.{ok}
 use Rattle.basis.specs.Number.{Bytes, be, number}
 use Rattle.basis.proofs.Number.{length-be, number-be, bytes-take, bytes-drop}
-use Rattle.calibration.specs.Date.{isReal, dateIn, dateOf, dateBytes}
-use Rattle.calibration.specs.Profile.{Fields, fields, serialLen, serialOf, duePlace, dueOf, capacityOf, isProfile, recordOf, fieldsOf}
-use Rattle.calibration.specs.declared.date.Date.{Date}
+use Rattle.calibration.specs.Date.{dateIn, dateOf, dateBytes}
+use Rattle.calibration.specs.Profile.{Fields, fields, serialLen, serialOf, duePlace, dueOf, capacityOf, recordOf, fieldsOf}
 use Rattle.calibration.proofs.Form.{profile-formed, serial-size, due-size, capacity-size}
 use Rattle.calibration.proofs.Digits.{four, number-of-four, bytes-back, date-read}
 use Rattle.calibration.proofs.Read.{read-says}

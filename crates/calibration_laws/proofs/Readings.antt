@@ -1,27 +1,24 @@
 -- What `read_profile`, `serial` and `put_profile` answer, in plain words, over their promises (rules 19.1 to 19.5, 19.9
 -- and 19.10).
 use Prim.Native.Nat.{ℕ, _+_, _-_, _≤_, _<_}
-use mathlib.Core.Path.{_≡_, refl, sym, ap, _∙_, subst}
+use mathlib.Core.Path.{_≡_, refl, sym, ap, _∙_}
 use mathlib.Core.Logic.{_↔_, _⊎_, inl, inr}
-use mathlib.Core.Bool.{true, false}
-use mathlib.Core.List.{List, [], _∷_, _++_}
+use mathlib.Core.List.{List, [], _++_}
 use native.Mathlib.Omega.{arith}
 use lib.ListN.{length, take, drop}
 use lib.Seq.{take-at, drop-at, length-take-le}
-use Rattle.basis.specs.Reply.{Reply, ok, refused, then}
-use Rattle.basis.specs.Number.{Bytes, number}
+use Rattle.basis.specs.Reply.{ok, refused}
+use Rattle.basis.specs.Number.{Bytes}
 use Rattle.basis.specs.Over.{overAt}
-use Rattle.calibration.specs.Date.{isReal}
-use Rattle.calibration.specs.Profile.{Fields, fields, serialOf, capacityOf, fieldsOf, profileOf, asReply, serialIn, read-profile-is, serial-is, recordOf}
+use Rattle.calibration.specs.Profile.{Fields, fields, serialOf, fieldsOf, profileOf, asReply, serialIn, read-profile-is, serial-is, recordOf}
 use Rattle.calibration.specs.Put.{put-profile-is}
-use Rattle.calibration.specs.declared.date.Date.{Date}
 use Rattle.calibration.specs.declared.profile.Profile.{Profile}
 use Rattle.calibration.specs.declared.profile.ReadProfile.{ReadProfile}
 use Rattle.calibration.specs.declared.profile.ReadProfile.the-variants as read
 use Rattle.calibration.specs.declared.put.PutProfile.{PutProfile}
 use Rattle.calibration.specs.declared.put.PutProfile.the-variants as put
 use Rattle.calibration.proofs.OneReply.{read-profile, put-profile}
-use Rattle.calibration.proofs.Read.{Told, profileReply, fields-told, refusal-told}
+use Rattle.calibration.proofs.Read.{profileReply, fields-told, refusal-told}
 use Rattle.calibration.proofs.Written.{no-serial, no-date, no-room, written, record-size}
 use Rattle.calibration_laws.specs.Plain.{RealDate, OfForm, NoDate, InRange, plainRecord}
 use Rattle.calibration_laws.proofs.RealDates.{real-date, unreal}

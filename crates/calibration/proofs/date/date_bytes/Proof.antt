@@ -1,6 +1,4 @@
 use borrow.Author.Needs.{needs}
-use mathlib.Core.Path.{_≡_}
-use native.Mathlib.Omega.{arith}
 use Rattle.calibration.specs.Date.{dateBytes}
 use Rattle.calibration.proofs.Calendar.{Real, real-says}
 use Rattle.calibration.proofs.Digits.{century-below, month-below, day-below}

@@ -1,5 +1,4 @@
 use borrow.Author.Needs.{needs}
-use mathlib.Core.Path.{_≡_}
 use Rattle.calibration.specs.Date.{dateIn}
 use Rattle.calibration.proofs.date.date_in.Statement.{statement}
 use Rattle.calibration.proofs.date.date_in.Tie as tie

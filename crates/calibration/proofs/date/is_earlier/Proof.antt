@@ -1,9 +1,10 @@
-use mathlib.Core.Path.{_≡_}
+use Rattle.calibration.specs.Date.{isEarlier}
 use Rattle.calibration.proofs.Calendar.{real-says, by-year, by-month, by-day}
 use Rattle.calibration.proofs.date.is_earlier.Statement.{statement}
 use Rattle.calibration.proofs.date.is_earlier.Tie as tie
 
 returns : tie.Need-returns
+unfolding isEarlier
 returns c =
     let s = c .before .before .before .before .before in
     let d = s .args .date in
@@ -11,6 +12,7 @@ returns c =
     by-year d e (real-says d (s .pre .0)) (real-says e (s .pre .1)) (c .before .before .if1 .taken)
 
 returns-2 : tie.Need-returns-2
+unfolding isEarlier
 returns-2 c =
     let y = c .before .before .before .before .before in
     let s = y .before .before .before in
@@ -19,6 +21,7 @@ returns-2 c =
     by-month d e (real-says d (s .pre .0)) (real-says e (s .pre .1)) (y .if1 .left) (c .before .before .if2 .taken)
 
 returns-3 : tie.Need-returns-3
+unfolding isEarlier
 returns-3 c =
     let y = c .before .before .before .before .before in
     let s = y .before .before .before in

@@ -1,5 +1,5 @@
 use borrow.Author.Needs.{needs}
-use mathlib.Core.Path.{_≡_, refl}
+use mathlib.Core.Path.{refl}
 use Rattle.calibration.specs.Date.{packed}
 use Rattle.calibration.proofs.date.packed.Statement.{statement}
 use Rattle.calibration.proofs.date.packed.Tie as tie

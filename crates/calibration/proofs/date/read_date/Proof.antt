@@ -1,7 +1,7 @@
 use borrow.Author.Needs.{needs}
-use mathlib.Core.Path.{_≡_, sym, ap, _∙_}
+use mathlib.Core.Path.{sym, _∙_}
 use borrow.Author.Tests.{not-true, not-false}
-use Rattle.calibration.specs.Date.{isReal, dateOf}
+use Rattle.calibration.specs.Date.{dateOf}
 use Rattle.calibration.proofs.date.read_date.Statement.{statement}
 use Rattle.calibration.proofs.date.read_date.Tie as tie
 

@@ -1,5 +1,5 @@
 use borrow.Author.Needs.{needs}
-use mathlib.Core.Path.{_≡_, refl}
+use mathlib.Core.Path.{refl}
 use native.Mathlib.Omega.{arith}
 use Rattle.calibration.specs.Date.{twoDigits}
 use Rattle.calibration.proofs.date.two_digits.Statement.{statement}

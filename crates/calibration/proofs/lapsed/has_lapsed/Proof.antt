@@ -8,7 +8,7 @@ use Rattle.basis.specs.Reply.{ok}
 use Rattle.basis.proofs.Reply.{matched-reply}
 use Rattle.calibration.specs.Date.{isReal}
 use Rattle.calibration.specs.Profile.{asReply}
-use Rattle.calibration.specs.Lapsed.{isEarlier, lapsedOf}
+use Rattle.calibration.specs.Lapsed.{lapsedOf}
 use Rattle.calibration.proofs.Read.{Told, fields-told, refusal-told}
 use Rattle.calibration.proofs.lapsed.has_lapsed.Statement.{statement}
 use Rattle.calibration.proofs.lapsed.has_lapsed.Tie as tie
@@ -35,7 +35,7 @@ returns-2 c =
     rw (refusal-told (r .before .before .args .«record» .now) _ no)
 
 returns-3 : tie.Need-returns-3
-unfolding lapsedOf isEarlier
+unfolding lapsedOf
 returns-3 c =
     let i = c .before in
     let p = i .before .before .before in

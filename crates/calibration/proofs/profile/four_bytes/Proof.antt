@@ -1,5 +1,4 @@
 use borrow.Author.Needs.{needs}
-use mathlib.Core.Path.{_≡_}
 use native.Mathlib.Omega.{arith}
 use Rattle.calibration.proofs.Digits.{number-of-four}
 use Rattle.calibration.proofs.profile.four_bytes.Statement.{statement}

@@ -1,10 +1,7 @@
 use borrow.Author.Needs.{needs}
-use mathlib.Core.Path.{_≡_, sym, _∙_}
-use mathlib.Core.Bool.{Bool, true}
-use Prim.Native.Nat.{_+_, _≤_}
-use mathlib.Core.List.{List}
+use mathlib.Core.Path.{_∙_}
+use Prim.Native.Nat.{_+_}
 use native.Mathlib.Omega.{arith}
-use lib.ListN.{length}
 use borrow.Author.Tests.{not-false}
 use Rattle.basis.proofs.Truth.{same-truth}
 use Rattle.calibration.specs.Profile.{serialLen, isProfile}

@@ -5,11 +5,10 @@ use Prim.Native.Nat.{_+_, _-_}
 use native.Mathlib.Omega.{arith}
 use lib.ListN.{length, take, drop}
 use borrow.Author.Tests.{not-true, not-false}
-use Rattle.basis.specs.Reply.{ok, refused}
 use Rattle.basis.specs.Number.{number}
 use Rattle.basis.proofs.Reply.{matched-reply}
 use Rattle.calibration.specs.Date.{dateOf, dateReply}
-use Rattle.calibration.specs.Profile.{duePlace, dueOf, capacityOf, isProfile}
+use Rattle.calibration.specs.Profile.{duePlace, isProfile}
 use Rattle.calibration.proofs.Form.{Formed, profile-formed, capacity-size}
 use Rattle.calibration.proofs.Read.{told-26, told-27, told-fields, due-part, capacity-part}
 use Rattle.calibration.proofs.profile.read_profile.Statement.{statement}

@@ -1,5 +1,5 @@
 use borrow.Author.Needs.{needs}
-use mathlib.Core.Path.{_≡_, sym}
+use mathlib.Core.Path.{sym}
 use Rattle.calibration.proofs.Written.{be-four}
 use Rattle.calibration.proofs.put.capacity_bytes.Statement.{statement}
 use Rattle.calibration.proofs.put.capacity_bytes.Tie as tie

@@ -3,7 +3,7 @@ use mathlib.Core.Path.{_≡_}
 use mathlib.Core.List.{List}
 use Prim.Native.Nat.{ℕ, _+_}
 use native.Mathlib.Omega.{arith}
-use Rattle.basis.specs.Reply.{ok, refused}
+use Rattle.basis.specs.Reply.{ok}
 use Rattle.basis.proofs.Reply.{matched-reply}
 use Rattle.calibration.specs.Profile.{asReply, fieldsOf}
 use Rattle.calibration.proofs.Read.{profileReply, fields-told}
