@@ -1,6 +1,6 @@
 -- Laws of the due date shown (rules 19.7 and 19.8).
 use Prim.Native.Nat.{ℕ, _+_, _≤_}
-use mathlib.Core.Path.{_≡_, ap}
+use mathlib.Core.Path.{_≡_, sym, ap, _∙_}
 use mathlib.Core.List.{List}
 use native.Mathlib.Omega.{arith}
 use lib.ListN.{length}
@@ -36,19 +36,45 @@ shown-inside c d w e =
     all-is (Inside c d) (orElse x y) w
     (inside-either c d x y (inside-one c c d card (λ lo. omega (arith, lo))) (inside-one d c d desk (λ lo. omega (arith, lo)))) e
 
--- whose it is, by what the reading of each record says
+-- whose it is, by the reply to each record
+module _ (c d : List ℕ) where
+  pub whose-card : (f : Fields) → fieldsOf c ≡ ok f → whoseOf c d ≡ ok (card (duePlace c))
+  unfolding whoseOf
+  whose-card f e = rw e
+
+  pub whose-desk : (k : ℕ) (f : Fields) → fieldsOf c ≡ refused k → fieldsOf d ≡ ok f → whoseOf c d ≡ ok (desk (duePlace d))
+  unfolding whoseOf
+  whose-desk k f n e = rw (n, e)
+
+  pub whose-none : (k l : ℕ) → fieldsOf c ≡ refused k → fieldsOf d ≡ refused l → whoseOf c d ≡ refused l
+  unfolding whoseOf
+  whose-none k l n e = rw (n, e)
+
+  -- it is someone's, or 26, or 27
+  pub by-whose : (P : Reply Whose → Type 0) → ((w : Whose) → P (ok w)) → P (refused 26) → P (refused 27) → P (whoseOf c d)
+  unfolding whoseOf
+  by-whose P h no-form no-date =
+      let cards : Reply Fields → Reply Whose = λ x. then x (λ f. ok (card (duePlace c))) in
+      let desks : Reply Fields → Reply Whose = λ x. then x (λ f. ok (desk (duePlace d))) in
+      let desk-alone : P (desks (fieldsOf d)) =
+      by-form (λ (x : Reply Fields). P (desks x)) d (λ form digits real. h (desk (duePlace d))) (λ form other. no-date) (λ other. no-form) in
+      by-form (λ (x : Reply Fields). P (orElse (cards x) (desks (fieldsOf d)))) c
+      (λ form digits real. h (card (duePlace c))) (λ form other. desk-alone) (λ other. desk-alone)
+
+-- the same by what the code's reading of each record says
 module _ (c d : List ℕ) where
   pub card-shown : (p : Profile) (at : ℕ) → profileReply (fieldsOf c) ≡ ok p → at ≡ p .serial + 6 → ok (card at) ≡ whoseOf c d
-  unfolding whoseOf
-  card-shown p at e n = let t = fields-told c p e in rw (t .fields-are) (ap (λ (a : ℕ). ok (card a)) (omega (arith, n, t .serial-is)))
+  card-shown p at e n =
+      let t = fields-told c p e in
+      let place : at ≡ duePlace c = omega (arith, n, t .serial-is) in
+      ap (λ (a : ℕ). ok (card a)) place ∙ sym (whose-card c d _ (t .fields-are))
 
   pub desk-shown : (k : ℕ) (p : Profile) (at : ℕ) → profileReply (fieldsOf c) ≡ refused k → profileReply (fieldsOf d) ≡ ok p
       → at ≡ p .serial + 6 → ok (desk at) ≡ whoseOf c d
-  unfolding whoseOf
   desk-shown k p at r e n =
       let t = fields-told d p e in
-      rw (refusal-told c k r, t .fields-are) (ap (λ (a : ℕ). ok (desk a)) (omega (arith, n, t .serial-is)))
+      let place : at ≡ duePlace d = omega (arith, n, t .serial-is) in
+      ap (λ (a : ℕ). ok (desk a)) place ∙ sym (whose-desk c d k _ (refusal-told c k r) (t .fields-are))
 
   pub none-shown : (k l : ℕ) → profileReply (fieldsOf c) ≡ refused k → profileReply (fieldsOf d) ≡ refused l → refused l ≡ whoseOf c d
-  unfolding whoseOf
-  none-shown k l r e = rw (refusal-told c k r, refusal-told d l e)
+  none-shown k l r e = sym (whose-none c d k l (refusal-told c k r) (refusal-told d l e))

@@ -9,12 +9,14 @@
 --     lengths stand at their places
 --   digits-packed, packed-digits, date-back, bytes-back (Digits): digits and dates correspond one to one
 --   by-form, read-says, fields-told, refusal-told (Read): the ways that a reading can go, and what each says
---   card-shown, desk-shown, none-shown, shown-inside (Due): whose due date is shown, and that it lies in the record
+--   lapsed-refused, lapsed-unreal, lapsed-real (Lapsing): whether a record has lapsed
+--   whose-card, whose-desk, whose-none, shown-inside (Due): whose due date is shown, and that it lies in the record
 --   no-serial, no-date, no-room, written (Written): the ways that the builder can answer
 pub mod Calendar
 pub mod Form
 pub mod Digits
 pub mod Read
+pub mod Lapsing
 pub mod Due
 pub mod Written
 pub mod OneReply

@@ -49,15 +49,23 @@ read-says s f e =
 abbrev pub profileReply : Reply Fields → Reply Profile
 profileReply x = then x (λ f. ok (profileOf f))
 
+-- how a record is refused: 26, then 27
+module _ (s : List ℕ) where
+  pub form-26 : isProfile s ≡ false → fieldsOf s ≡ refused 26
+  unfolding fieldsOf
+  form-26 e = rw e
+
+  pub date-27 : isProfile s ≡ true → dateOf (dueOf s) ≡ refused 27 → fieldsOf s ≡ refused 27
+  unfolding fieldsOf
+  date-27 e f = rw (e, f)
+
 -- how the code may answer: 26, then 27, then the fields
 module _ (s : List ℕ) where
   pub told-26 : isProfile s ≡ false → refused 26 ≡ profileReply (fieldsOf s)
-  unfolding fieldsOf
-  told-26 e = rw e
+  told-26 e = sym (ap profileReply (form-26 s e))
 
   pub told-27 : isProfile s ≡ true → dateOf (dueOf s) ≡ refused 27 → refused 27 ≡ profileReply (fieldsOf s)
-  unfolding fieldsOf
-  told-27 e f = rw (e, f)
+  told-27 e f = sym (ap profileReply (date-27 s e f))
 
   pub told-fields : isProfile s ≡ true → (p : Profile) → dateOf (dueOf s) ≡ ok (p .due) → p .serial ≡ serialLen s
       → p .capacity ≡ number (capacityOf s) → ok p ≡ profileReply (fieldsOf s)

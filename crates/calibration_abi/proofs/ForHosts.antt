@@ -18,7 +18,9 @@ use Rattle.calibration.specs.Shown.{card, desk, whoseOf}
 use Rattle.calibration.specs.Put.{putOf}
 use Rattle.calibration.specs.declared.date.Date.{Date}
 use Rattle.calibration.proofs.Form.{profile-formed, serial-size}
-use Rattle.calibration.proofs.Read.{read-says}
+use Rattle.calibration.proofs.Read.{form-26, date-27, read-says}
+use Rattle.calibration.proofs.Lapsing as law
+use Rattle.calibration.proofs.Due as shown
 use Rattle.calibration.proofs.Written.{be-four, record-parts, no-serial, no-date, no-room, written}
 use Rattle.calibration_abi.specs.Numbers.{dateBy, fieldsBy, profileNumbers, readReply, serialReply, lapsedReply}
 use Rattle.calibration_abi.specs.Numbers.{shownReply, shownFromReply, ProfilePut}
@@ -28,12 +30,10 @@ use Rattle.calibration_abi.proofs.Promises.{numbers, no-numbers, short-
 -- when a record is refused: 26 if it is not of the form; 27 if it is, and there is no such date (rule 19.5)
 module _ (s : List ℕ) where
   pub no-form-26 : isProfile s ≡ false → fieldsOf s ≡ refused 26
-  unfolding fieldsOf
-  no-form-26 e = rw e
+  no-form-26 = form-26 s
 
   pub no-date-27 : isProfile s ≡ true → dateOf (dueOf s) ≡ refused 27 → fieldsOf s ≡ refused 27
-  unfolding fieldsOf
-  no-date-27 e g = rw (e, g)
+  no-date-27 = date-27 s
 
 -- a record is read: its five numbers, or its refusal; 16 for every record if these cannot be written (rule 19.5)
 module _ (s out : List ℕ) (r : ℕ) (out′ : List ℕ) (p : NumbersWritten 5 (readReply s) out r out′) where
@@ -80,25 +80,25 @@ module _ (s : List ℕ) (y m d : ℕ) (out : List ℕ) (r : ℕ) (out′ : List 
 
   module _ (h : 1 ≤ length out) where
     pub lapsed-refused : (k : ℕ) → fieldsOf s ≡ refused k → (r ≡ k) × (out′ ≡ out)
-    unfolding lapsedOf
-    lapsed-refused k e = no-numbers 1 (lapsedReply s (day y m d)) out r out′ on-that-day k (rw e) h
+    lapsed-refused k e =
+        no-numbers 1 (lapsedReply s (day y m d)) out r out′ on-that-day k (rw (law.lapsed-refused s (day y m d) k e)) h
 
     module _ (f : Fields) (e : fieldsOf s ≡ ok f) where
       pub no-such-date : isReal (day y m d) ≡ false → (r ≡ 27) × (out′ ≡ out)
-      unfolding lapsedOf
-      no-such-date n = no-numbers 1 (lapsedReply s (day y m d)) out r out′ on-that-day 27 (rw (e, n)) h
+      no-such-date n =
+          no-numbers 1 (lapsedReply s (day y m d)) out r out′ on-that-day 27 (rw (law.lapsed-unreal s (day y m d) f e n)) h
 
       pub lapsed-told : isReal (day y m d) ≡ true → dayNumber (f .due) < dayNumber (day y m d) → (r ≡ 0) × (out′ ≡ over (1 ∷ []) out)
-      unfolding lapsedOf isEarlier
+      unfolding isEarlier
       lapsed-told n l =
           let earlier = lt-ltb (dayNumber (f .due)) (dayNumber (day y m d)) l in
-          numbers 1 (lapsedReply s (day y m d)) out r out′ on-that-day (1 ∷ []) (rw (e, n, earlier)) h
+          numbers 1 (lapsedReply s (day y m d)) out r out′ on-that-day (1 ∷ []) (rw (law.lapsed-real s (day y m d) f e n, earlier)) h
 
       pub not-lapsed-told : isReal (day y m d) ≡ true → dayNumber (day y m d) ≤ dayNumber (f .due) → (r ≡ 0) × (out′ ≡ over (0 ∷ []) out)
-      unfolding lapsedOf isEarlier
+      unfolding isEarlier
       not-lapsed-told n l =
           let not-earlier = le-ltb (dayNumber (f .due)) (dayNumber (day y m d)) l in
-          numbers 1 (lapsedReply s (day y m d)) out r out′ on-that-day (0 ∷ []) (rw (e, n, not-earlier)) h
+          numbers 1 (lapsedReply s (day y m d)) out r out′ on-that-day (0 ∷ []) (rw (law.lapsed-real s (day y m d) f e n, not-earlier)) h
 
 -- the due date of a record that was read: behind the serial and six more bytes, and four bytes long
 module _ (s : List ℕ) (f : Fields) (e : fieldsOf s ≡ ok f) where
@@ -116,16 +116,10 @@ module _ (s : List ℕ) (f : Fields) (e : fieldsOf s ≡ ok f) where
 -- whose due date is shown, by what the reading of the two records says
 module _ (c d : List ℕ) where
   whose-card : (f : Fields) → fieldsOf c ≡ ok f → whoseOf c d ≡ ok (card (length (f .serial) + 6))
-  unfolding whoseOf
-  whose-card f e = rw e (ap (λ (n : ℕ). ok (card n)) (due-place c f e))
+  whose-card f e = shown.whose-card c d f e ∙ ap (λ (n : ℕ). ok (card n)) (due-place c f e)
 
   whose-desk : (k : ℕ) (f : Fields) → fieldsOf c ≡ refused k → fieldsOf d ≡ ok f → whoseOf c d ≡ ok (desk (length (f .serial) + 6))
-  unfolding whoseOf
-  whose-desk k f n e = rw (n, e) (ap (λ (n : ℕ). ok (desk n)) (due-place d f e))
-
-  whose-none : (j k : ℕ) → fieldsOf c ≡ refused j → fieldsOf d ≡ refused k → whoseOf c d ≡ refused k
-  unfolding whoseOf
-  whose-none j k n e = rw (n, e)
+  whose-desk k f n e = shown.whose-desk c d k f n e ∙ ap (λ (n : ℕ). ok (desk n)) (due-place d f e)
 
 -- the due date shown is copied: 16 for the row, the desk's refusal if both are refused, 16 for the room (rule 19.7)
 module _ (c d to out : List ℕ) (r : ℕ) (to′ out′ : List ℕ) (p : ReplyCopied (shownReply c d) to out r to′ out′) where
@@ -134,7 +128,7 @@ module _ (c d to out : List ℕ) (r : ℕ) (to′ out′ : List ℕ) (p : ReplyC
 
   module _ (h : 1 ≤ length out) where
     pub shown-refused : (j k : ℕ) → fieldsOf c ≡ refused j → fieldsOf d ≡ refused k → (r ≡ k) × (to′ ≡ to) × (out′ ≡ out)
-    shown-refused j k n e = no-bytes to out r to′ out′ (shownReply c d) p h k (rw (whose-none c d j k n e))
+    shown-refused j k n e = no-bytes to out r to′ out′ (shownReply c d) p h k (rw (shown.whose-none c d j k n e))
 
     module _ (f : Fields) (e : fieldsOf c ≡ ok f) where
       pub card-too-long : length to < 4 → (r ≡ 16) × (to′ ≡ to) × (out′ ≡ out)
@@ -169,7 +163,7 @@ module _ (c d out : List ℕ) (r : ℕ) (out′ : List ℕ) (p : NumbersWritten 
 
   module _ (h : 2 ≤ length out) where
     pub place-refused : (j k : ℕ) → fieldsOf c ≡ refused j → fieldsOf d ≡ refused k → (r ≡ k) × (out′ ≡ out)
-    place-refused j k n e = no-numbers 2 (shownFromReply c d) out r out′ p k (rw (whose-none c d j k n e)) h
+    place-refused j k n e = no-numbers 2 (shownFromReply c d) out r out′ p k (rw (shown.whose-none c d j k n e)) h
 
     pub card-place-told : (f : Fields) → fieldsOf c ≡ ok f → (r ≡ 0) × (out′ ≡ over (0 ∷ (length (f .serial) + 6) ∷ []) out)
     card-place-told f e =

@@ -2,21 +2,20 @@
 -- for the numbers is too short (rule 19.12).
 use Prim.Native.Nat.{ℕ, _≤_, _<_}
 use mathlib.Core.Path.{_≡_, refl, subst}
-use mathlib.Core.Bool.{cond}
 use mathlib.Core.List.{List, [], _∷_}
 use native.Mathlib.Omega.{arith}
 use borrow.Author.Tests.{lt-ltb, le-ltb}
 use lib.ListN.{length}
 use Rattle.basis.specs.Reply.{Reply, ok, refused, then}
 use Rattle.basis.specs.Over.{over}
-use Rattle.basis.proofs.Truth.{on-cond}
 use Rattle.abi.specs.Answers.{tooShort, NumbersWritten, BytesCopied, ReplyCopied}
-use Rattle.calibration.specs.Date.{isReal, isEarlier}
-use Rattle.calibration.specs.Profile.{duePlace, fieldsOf}
+use Rattle.calibration.specs.Profile.{fieldsOf}
 use Rattle.calibration.specs.Lapsed.{lapsedOf}
-use Rattle.calibration.specs.Shown.{card, desk, orElse, whoseOf}
+use Rattle.calibration.specs.Shown.{whoseOf}
 use Rattle.calibration.specs.declared.date.Date.{Date}
 use Rattle.calibration.proofs.Read.{by-form}
+use Rattle.calibration.proofs.Lapsing.{by-lapsed}
+use Rattle.calibration.proofs.Due.{by-whose}
 
 -- a refusal has a number above 16: so 16 is given before it, if the slice for the numbers is too short
 abbrev pub Above16 : {A : Type 0} → Reply A → Type 0
@@ -27,25 +26,14 @@ pub above-then : {A B : Type 0} (x : Reply A) (f : A → Reply B) → Above16 x 
 above-then (ok a) f h g = g a
 above-then (refused k) f h g = h
 
-above-or : {A : Type 0} (x y : Reply A) → Above16 x → Above16 y → Above16 (orElse x y)
-above-or (ok a) y h g = h
-above-or (refused k) y h g = g
-
 pub fields-above : (s : List ℕ) → Above16 (fieldsOf s)
 fields-above s = by-form Above16 s (λ form digits real. tt) (λ form no. omega arith) (λ no. omega arith)
 
 pub lapsed-above : (s : List ℕ) (on : Date) → Above16 (lapsedOf s on)
-unfolding lapsedOf
-lapsed-above s on =
-    above-then (fieldsOf s) (λ f. cond (isReal on) (ok (isEarlier (f .due) on)) (refused 27)) (fields-above s)
-    (λ f. on-cond Above16 (isReal on) (ok (isEarlier (f .due) on)) (refused 27) (λ e. tt) (λ e. omega arith))
+lapsed-above s on = by-lapsed s on Above16 (λ b. tt) (omega arith) (omega arith)
 
 pub whose-above : (c d : List ℕ) → Above16 (whoseOf c d)
-unfolding whoseOf
-whose-above c d =
-    above-or (then (fieldsOf c) (λ f. ok (card (duePlace c)))) (then (fieldsOf d) (λ f. ok (desk (duePlace d))))
-    (above-then (fieldsOf c) (λ f. ok (card (duePlace c))) (fields-above c) (λ f. tt))
-    (above-then (fieldsOf d) (λ f. ok (desk (duePlace d))) (fields-above d) (λ f. tt))
+whose-above c d = by-whose c d Above16 (λ w. tt) (omega arith) (omega arith)
 
 short-16 : {A : Type 0} (x : Reply A) → Above16 x → tooShort x ≡ refused 16
 short-16 (ok a) h = refl

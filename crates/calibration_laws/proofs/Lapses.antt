@@ -9,7 +9,7 @@ use lib.Dec.{ltb}
 use borrow.Author.Tests.{ltb-true, ltb-false, lt-ltb, le-ltb}
 use Rattle.calibration.specs.Date.{isReal, dayNumber, isEarlier}
 use Rattle.calibration.specs.Profile.{read-profile-is}
-use Rattle.calibration.specs.Lapsed.{lapsedOf, has-lapsed-is}
+use Rattle.calibration.specs.Lapsed.{has-lapsed-is}
 use Rattle.calibration.specs.declared.date.Date.{Date}
 use Rattle.calibration.specs.declared.profile.Profile.{Profile}
 use Rattle.calibration.specs.declared.profile.ReadProfile.{ReadProfile}
@@ -18,6 +18,7 @@ use Rattle.calibration.specs.declared.lapsed.HasLapsed.{HasLapsed}
 use Rattle.calibration.specs.declared.lapsed.HasLapsed.the-variants as lapsed
 use Rattle.calibration.proofs.OneReply.{has-lapsed}
 use Rattle.calibration.proofs.Read.{Told, fields-told}
+use Rattle.calibration.proofs.Lapsing as law
 use Rattle.calibration_laws.specs.Plain.{RealDate, Earlier}
 use Rattle.calibration_laws.proofs.RealDates.{real-date, unreal}
 use Rattle.calibration_laws.proofs.Days.{order-of-days}
@@ -27,8 +28,7 @@ use Rattle.calibration_laws.proofs.Readings.{read-as, refused-as}
 module _ (s : List ℕ) (y : ReadProfile) (py : read-profile-is s y) (on : Date) (x : HasLapsed) (px : has-lapsed-is s on x) where
   -- the refusal of the record comes first, 26 and 27 alike
   pub lapsed-refused : (k : ℕ) → y ≡ read.Refused k → x ≡ lapsed.Refused k
-  unfolding lapsedOf
-  lapsed-refused k e = has-lapsed s on x (lapsed.Refused k) px (rw (refused-as s y py k e))
+  lapsed-refused k e = has-lapsed s on x (lapsed.Refused k) px (sym (law.lapsed-refused s on k (refused-as s y py k e)))
 
   module _ (p : Profile) (e : y ≡ read.Profile p) where
     told : Told s p
@@ -36,13 +36,14 @@ module _ (s : List ℕ) (y : ReadProfile) (py : read-profile-is s y) (on : Date)
 
     -- 27 if there is no such date as the given one
     pub lapsed-no-date : (RealDate on → ⊥) → x ≡ lapsed.Refused 27
-    unfolding lapsedOf
-    lapsed-no-date n = has-lapsed s on x (lapsed.Refused 27) px (rw (told .fields-are, unreal on n))
+    lapsed-no-date n = has-lapsed s on x (lapsed.Refused 27) px (sym (law.lapsed-unreal s on _ (told .fields-are) (unreal on n)))
 
     module _ (r : RealDate on) where
       answer : x ≡ lapsed.Says (ltb (dayNumber (p .due)) (dayNumber on))
-      unfolding lapsedOf isEarlier
-      answer = has-lapsed s on x (lapsed.Says (ltb (dayNumber (p .due)) (dayNumber on))) px (rw (told .fields-are, real-date on .1 r))
+      unfolding isEarlier
+      answer =
+          has-lapsed s on x (lapsed.Says (ltb (dayNumber (p .due)) (dayNumber on))) px
+          (sym (law.lapsed-real s on _ (told .fields-are) (real-date on .1 r)))
 
       -- it has lapsed exactly if the due date's day has the smaller number; otherwise it has not
       pub lapsed-days : (x ≡ lapsed.Says true) ↔ (dayNumber (p .due) < dayNumber on)

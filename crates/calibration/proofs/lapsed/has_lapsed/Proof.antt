@@ -8,8 +8,8 @@ use Rattle.basis.specs.Reply.{ok}
 use Rattle.basis.proofs.Reply.{matched-reply}
 use Rattle.calibration.specs.Date.{isReal}
 use Rattle.calibration.specs.Profile.{asReply}
-use Rattle.calibration.specs.Lapsed.{lapsedOf}
 use Rattle.calibration.proofs.Read.{Told, fields-told, refusal-told}
+use Rattle.calibration.proofs.Lapsing.{lapsed-refused, lapsed-unreal, lapsed-real}
 use Rattle.calibration.proofs.lapsed.has_lapsed.Statement.{statement}
 use Rattle.calibration.proofs.lapsed.has_lapsed.Tie as tie
 
@@ -21,26 +21,25 @@ told : (c : tie.After-profile) → Told (s c) (c .profile .given .0 .0)
 told c = fields-told (s c) _ (matched-reply asReply (c .before .before .read-profile .ensures) (c .profile .given .1))
 
 returns : tie.Need-returns
-unfolding lapsedOf
 returns c =
     let p = c .before .before .before in
     let unreal : isReal (p .before .before .before .before .args .on) ≡ false = sym (c .before .is-real .ensures) ∙ not-true _ (c .if1 .taken) in
-    rw (told p .fields-are, unreal)
+    sym (lapsed-unreal (s p) (p .before .before .before .before .args .on) _ (told p .fields-are) unreal)
 
 returns-2 : tie.Need-returns-2
-unfolding lapsedOf
 returns-2 c =
     let r = c .before .before .before in
     let no = matched-reply asReply (r .read-profile .ensures) (c .before .k .given .1) in
-    rw (refusal-told (r .before .before .args .«record» .now) _ no)
+    let a = r .before .before .args in
+    sym (lapsed-refused (a .«record» .now) (a .on) _ (refusal-told (a .«record» .now) _ no))
 
 returns-3 : tie.Need-returns-3
-unfolding lapsedOf
 returns-3 c =
     let i = c .before in
     let p = i .before .before .before in
     let real : isReal (p .before .before .before .before .args .on) ≡ true = sym (i .before .is-real .ensures) ∙ not-false _ (i .if1 .left) in
-    rw (told p .fields-are, real) (ap (λ (b : Bool). ok b) (c .is-earlier .ensures))
+    ap (λ (b : Bool). ok b) (c .is-earlier .ensures)
+    ∙ sym (lapsed-real (s p) (p .before .before .before .before .args .on) _ (told p .fields-are) real)
 
 pub has-lapsed-spec : {M : Type 1} → statement M
 has-lapsed-spec =
