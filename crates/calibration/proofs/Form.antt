@@ -91,18 +91,19 @@ module _ (s : List ℕ) (lo : 17 ≤ length s) (hi : length s ≤ 32) where
       rw (p1, c2) at (object-here s 2 0xC1 n (omega arith) (h .serial)) in
       rw (p6, none-behind, append-nil, all, c1) at (object-here s 0 0xE1 (n + 14) (omega arith) (h .outer))
 
+-- what stands in the template, and how many bytes these are
+abbrev pub inside : List ℕ → List ℕ → List ℕ → List ℕ
+inside v d c = object 0xC1 v ++ (object 0xC2 d ++ object 0xC3 c)
+
+pub inside-size : (v d c : List ℕ) → length d ≡ 4 → length c ≡ 4 → length (inside v d c) ≡ length v + 14
+unfolding object
+inside-size v d c due-size capacity-size = simp length-append (omega (arith, due-size, capacity-size))
+
 -- a template has these heads, and its parts at these places
 module _ (v d c : List ℕ) (due-size : length d ≡ 4) (capacity-size : length c ≡ 4) where
-  abbrev inside : List ℕ
-  inside = object 0xC1 v ++ (object 0xC2 d ++ object 0xC3 c)
-
-  inside-size : length inside ≡ length v + 14
-  unfolding object
-  inside-size = simp length-append (omega (arith, due-size, capacity-size))
-
   pub template-size : length (template v d c) ≡ length v + 16
   unfolding template object
-  template-size = omega (arith, inside-size)
+  template-size = omega (arith, inside-size v d c due-size capacity-size)
 
   pub record Parts (s : List ℕ) (n : ℕ) : Type 0 where
     pub heads : Heads s n
@@ -118,14 +119,14 @@ module _ (v d c : List ℕ) (due-size : length d ≡ 4) (capacity-size : length 
       let p2 : n + 4 + 2 ≡ n + 6 = omega arith in
       let p3 : n + 4 + 2 + length d ≡ n + 10 = omega (arith, due-size) in
       let p4 : n + 10 + 2 ≡ n + 6 + 6 = omega arith in
-      let outer = object-there s 0 0xE1 inside [] (e ∙ sym (append-nil (object 0xE1 inside))) in
-      let first = object-there s 2 0xC1 v (object 0xC2 d ++ object 0xC3 c) (outer .1 ∙ append-nil inside) in
+      let outer = object-there s 0 0xE1 (inside v d c) [] (e ∙ sym (append-nil (object 0xE1 (inside v d c)))) in
+      let first = object-there s 2 0xC1 v (object 0xC2 d ++ object 0xC3 c) (outer .1 ∙ append-nil (inside v d c)) in
       let second = object-there s (n + 4) 0xC2 d (object 0xC3 c) (rw p1 at (first .2)) in
       let third = object-there s (n + 10) 0xC3 c [] (rw p3 at (second .2) ∙ sym (append-nil (object 0xC3 c))) in
       record {
         heads =
             record {
-              outer = (outer .0 .0, outer .0 .1 ∙ inside-size);
+              outer = (outer .0 .0, outer .0 .1 ∙ inside-size v d c due-size capacity-size);
               serial = first .0;
               due = (second .0 .0, second .0 .1 ∙ due-size);
               capacity = (third .0 .0, third .0 .1 ∙ capacity-size);

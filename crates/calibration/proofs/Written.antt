@@ -4,7 +4,7 @@ use mathlib.Core.Path.{_≡_, refl, sym, ap, _∙_}
 use mathlib.Core.Bool.{true, false}
 use mathlib.Core.List.{List, [], _∷_, _++_, append-assoc}
 use native.Mathlib.Omega.{arith}
-use lib.ListN.{length, length-append}
+use lib.ListN.{length}
 use borrow.Author.Tests.{lt-ltb, le-ltb}
 use Rattle.basis.specs.Number.{be}
 use Rattle.basis.specs.Over.{over, overAt}
@@ -14,7 +14,7 @@ use Rattle.calibration.specs.Date.{isReal, dateBytes}
 use Rattle.calibration.specs.Profile.{Fields, object, template, isSerialLen, recordOf}
 use Rattle.calibration.specs.Put.{putOf, put-profile-is}
 use Rattle.calibration.specs.declared.put.PutProfile.the-variants.{Written, Refused}
-use Rattle.calibration.proofs.Form.{template-size, serial-len, len-serial}
+use Rattle.calibration.proofs.Form.{inside-size, template-size, serial-len, len-serial}
 
 -- a number in four bytes
 pub be-four : (n : ℕ) → be 4 n ≡ n / 16777216 % 256 ∷ n / 65536 % 256 ∷ n / 256 % 256 ∷ n % 256 ∷ []
@@ -41,8 +41,7 @@ record-parts f =
     let n = length (f .serial) in
     let d = object 0xC2 (dateBytes (f .due)) in
     let c = object 0xC3 (be 4 (f .capacity)) in
-    let size : length (object 0xC1 (f .serial) ++ (d ++ c)) ≡ n + 14 =
-    simp length-append (omega (arith, date-size f, length-be 4 (f .capacity))) in
+    let size = inside-size (f .serial) (dateBytes (f .due)) (be 4 (f .capacity)) (date-size f) (length-be 4 (f .capacity)) in
     rw size (sym (append-assoc ((0xE1 ∷ (n + 14) ∷ 0xC1 ∷ n ∷ []) ++ f .serial) d c) ∙ refl)
 
 -- an object that was written with a value of these bytes

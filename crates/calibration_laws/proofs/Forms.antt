@@ -5,12 +5,12 @@ use mathlib.Core.Logic.{_↔_, _⊎_, inl, inr}
 use mathlib.Core.Bool.{true, false, true≢false, _&&_}
 use mathlib.Core.List.{List, _∷_, _++_}
 use native.Mathlib.Omega.{arith}
-use lib.ListN.{length, length-append, take, drop}
+use lib.ListN.{length, take, drop}
 use Rattle.basis.specs.Reply.{Reply, refused}
 use Rattle.basis.proofs.Reply.{refused-not-ok}
 use Rattle.calibration.specs.Date.{isReal, arePacked, dateIn, dateBytes}
 use Rattle.calibration.specs.Profile.{Fields, object, template, serialLen, serialOf, dueOf, capacityOf, isProfile, fieldsOf}
-use Rattle.calibration.proofs.Form.{Heads, profile-formed, all-heads, template-size, template-parts, serial-size, due-size, capacity-size}
+use Rattle.calibration.proofs.Form.{Heads, profile-formed, all-heads, inside-size, template-size, template-parts, serial-size, due-size, capacity-size}
 use Rattle.calibration.proofs.Digits.{date-back, date-packed, bytes-back}
 use Rattle.calibration.proofs.Read.{by-form}
 use Rattle.calibration_laws.specs.Plain.{formBytes, OfForm, NoDate}
@@ -20,7 +20,7 @@ use Rattle.calibration_laws.proofs.RealDates.{real-date, bounds, date-d
 pub template-bytes : (v d c : List ℕ) → length d ≡ 4 → length c ≡ 4 → template v d c ≡ formBytes v d c
 unfolding template object
 template-bytes v d c hd hc =
-    let size : length (object 0xC1 v ++ (object 0xC2 d ++ object 0xC3 c)) ≡ length v + 14 = simp length-append (omega (arith, hd, hc)) in
+    let size = inside-size v d c hd hc in
     λ i. 0xE1 ∷ size i ∷ 0xC1 ∷ length v ∷ (v ++ (0xC2 ∷ hd i ∷ (d ++ (0xC3 ∷ hc i ∷ c))))
 
 -- the values of bytes of this form stand at the places where the definition looks for them

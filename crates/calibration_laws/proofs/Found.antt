@@ -29,7 +29,7 @@ use Rattle.calibration.specs.Profile.{Fields, object, template, serialOf, dueOf
 use Rattle.calibration.specs.declared.profile.Profile.{Profile}
 use Rattle.calibration.specs.declared.profile.ReadProfile.{ReadProfile}
 use Rattle.calibration.specs.declared.profile.ReadProfile.the-variants as read
-use Rattle.calibration.proofs.Form.{Formed, profile-formed, template-size, serial-size, due-size, capacity-size}
+use Rattle.calibration.proofs.Form.{Formed, profile-formed, inside, inside-size, template-size, serial-size, due-size, capacity-size}
 use Rattle.calibration.proofs.Read.{read-says, fields-told}
 use Rattle.calibration_laws.specs.Plain.{digitBytes}
 use Rattle.calibration_laws.proofs.Forms.{template-bytes, refused-26}
@@ -98,38 +98,22 @@ module _ (r : Reading) (t : ℕ) (below : t < 256) (one : OneByte t) (bytes : ta
 
 -- the lookup of E1, C2 in a template
 module _ (r : Reading) (v d c : List ℕ) (hi : length v ≤ 16) (hd : length d ≡ 4) (hc : length c ≡ 4) where
-  abbrev inside : List ℕ
-  inside = object 0xC1 v ++ (object 0xC2 d ++ object 0xC3 c)
-
-  inside-size : length inside ≡ length v + 14
-  inside-size =
-      omega (
-        arith,
-        length-append (object 0xC1 v) (object 0xC2 d ++ object 0xC3 c),
-        length-append (object 0xC2 d) (object 0xC3 c),
-        object-size 0xC1 v,
-        object-size 0xC2 d,
-        object-size 0xC3 c,
-        hd,
-        hc,
-      )
-
-  outer-found : seek r 0xE1 0 (template v d c) ≡ ok (record { at = 2; len = length inside })
+  outer-found : seek r 0xE1 0 (template v d c) ≡ ok (record { at = 2; len = length (inside v d c) })
   unfolding template
   outer-found =
-      ap (seek r 0xE1 0) (sym (append-nil (object 0xE1 inside)))
-      ∙ object-here r 0xE1 (omega arith) tag-e1 bytes-e1 inside [] (omega (arith, inside-size, hi)) 0
+      ap (seek r 0xE1 0) (sym (append-nil (object 0xE1 (inside v d c))))
+      ∙ object-here r 0xE1 (omega arith) tag-e1 bytes-e1 (inside v d c) [] (omega (arith, inside-size v d c hd hc, hi)) 0
 
-  inner-found : seek r 0xC2 2 inside ≡ ok (record { at = length v + 6; len = 4 })
+  inner-found : seek r 0xC2 2 (inside v d c) ≡ ok (record { at = length v + 6; len = 4 })
   inner-found =
       let place : 2 + (2 + length v) + 2 ≡ length v + 6 = omega arith in
       object-passed r 0xC1 (omega arith) tag-c1 bytes-c1 v (object 0xC2 d ++ object 0xC3 c) (omega (arith, hi)) 0xC2 2 (λ e. omega (arith, e))
       ∙ object-here r 0xC2 (omega arith) tag-c2 bytes-c2 d (object 0xC3 c) (omega (arith, hd)) (2 + (2 + length v))
       ∙ (λ i. ok (record { at = place i; len = hd i }))
 
-  value-inside : take (length inside) (drop 2 (template v d c)) ≡ inside
+  value-inside : take (length (inside v d c)) (drop 2 (template v d c)) ≡ (inside v d c)
   unfolding template object
-  value-inside = take-length inside
+  value-inside = take-length (inside v d c)
 
   template-found : lookup r (template v d c) (0xE1 ∷ 0xC2 ∷ []) ≡ ok (record { at = length v + 6; len = 4; matched = 2 })
   unfolding follow
@@ -172,16 +156,19 @@ module _ (s : List ℕ) (y : ReadProfile) (py : read-profile-is s y) (p : Profil
       ∙ template-found r (serialOf s) (dueOf s) (capacityOf s) few (due-size s lo) (capacity-size s lo)
       ∙ (λ i. ok (record { at = size i + 6; len = 4; matched = 2 }))
 
-  -- so a record is not what a lookup finds: with a zero byte in front it is refused with 26, and the lookup in the
-  -- standard reading finds the date as before, one byte further on (rule 19.1)
-  pub not-by-lookup : (fieldsOf (0 ∷ s) ≡ refused 26)
-      × (lookup Standard (0 ∷ s) (0xE1 ∷ 0xC2 ∷ []) ≡ movedLookup 1 (lookup Standard s (0xE1 ∷ 0xC2 ∷ [])))
-  unfolding zeroBytes
-  not-by-lookup =
-      (byte-before s _ (fields-told s p (read-as s y py p e) .fields-are) 0, zeros-lookup 1 s 0xE1 (0xC2 ∷ []))
-
   pub due-found : (g : GetDataObject) → get-data-object-is r s (0xE1 ∷ 0xC2 ∷ []) g → g ≡ get.Value (p .serial + 6) 4 2
   due-found g pg = get-data-object r s (0xE1 ∷ 0xC2 ∷ []) g (get.Value (p .serial + 6) 4 2) pg (sym found)
 
   pub due-value : (x : List ℕ) → value-is r s (0xE1 ∷ 0xC2 ∷ []) x → x ≡ digitBytes (p .due)
   due-value x px = px ∙ ap (valueIn s) found ∙ due-there s p (read-as s y py p e)
+
+-- so a record is not what a lookup finds: with a zero byte in front it is refused with 26, and the lookup in the
+-- standard reading finds the date as before, one byte further on (rule 19.1)
+pub not-by-lookup : (s : List ℕ) (y : ReadProfile) → read-profile-is s y → (p : Profile) → y ≡ read.Profile p
+    → (fieldsOf (0 ∷ s) ≡ refused 26)
+    × (lookup Standard (0 ∷ s) (0xE1 ∷ 0xC2 ∷ []) ≡ ok (record { at = p .serial + 7; len = 4; matched = 2 }))
+unfolding zeroBytes
+not-by-lookup s y py p e =
+    let place : 1 + (p .serial + 6) ≡ p .serial + 7 = omega arith in
+    let moved = zeros-lookup 1 s 0xE1 (0xC2 ∷ []) ∙ ap (movedLookup 1) (found s y py p e Standard) in
+    (byte-before s _ (fields-told s p (read-as s y py p e) .fields-are) 0, moved ∙ (λ i. ok (record { at = place i; len = 4; matched = 2 })))
