@@ -8,66 +8,66 @@ use lib.Dec.{ltb}
 use lib.ListN.{length}
 use Rattle.basis.specs.Reply.{Reply, ok, refused}
 use Rattle.basis.specs.Over.{over}
-use Rattle.basis.proofs.Reply.{all-is}
-use Rattle.abi.specs.Answers.{tooShort, refusal-status-is}
-use Rattle.abi.proofs.AnswerLaws.{refusal-fitted}
-use Rattle.builder.specs.Builder.{asReply}
-use Rattle.builder.specs.Bytes.{commandOf, serializeOf, asReply as lengthAsReply, serialize-into-is}
+use Rattle.basis.proofs.Reply.{all_is}
+use Rattle.abi.specs.Answers.{too_short, RefusalStatusIs}
+use Rattle.abi.proofs.AnswerLaws.{refusal_fitted}
+use Rattle.builder.specs.Builder.{as_reply}
+use Rattle.builder.specs.Bytes.{command_of, serialize_of, as_reply as length_as_reply, SerializeIntoIs}
 use Rattle.builder.specs.declared.CommandBuilder.{CommandBuilder}
 use Rattle.builder.specs.declared.Built.{Built}
 use Rattle.builder.specs.declared.Built.TheVariants as built
 use Rattle.builder.specs.declared.sizes.Length.{Length}
 use Rattle.builder.specs.declared.sizes.Length.TheVariants.{Bytes, Refused}
-use Rattle.abi.specs.Builders.{builderByNumbers}
+use Rattle.abi.specs.Builders.{builder_by_numbers}
 use Rattle.abi.proofs.BuilderLaws.{few}
 use Rattle.abi.specs.Serialized.{Serialized}
 
 -- 16, whether the command fits the buffer or not
-either-way-16 : (w : Bool) (n : ℕ) → tooShort (cond w (refused 16) (ok n)) ≡ refused 16
-either-way-16 true n = refl
-either-way-16 false n = refl
+either_way_16 : (w : Bool) (n : ℕ) → too_short (cond w (refused 16) (ok n)) ≡ refused 16
+either_way_16 true n = refl
+either_way_16 false n = refl
 
 -- if the slice has no place for the length, the reply is 16, for data of at most 65,535 bytes
-no-place-for-the-length : (b : CommandBuilder) (d : List ℕ) (m at : ℕ) → length d ≤ 65535 → tooShort (serializeOf b d m at) ≡ refused 16
-unfolding serializeOf
-no-place-for-the-length b d m at h =
-    rw (le-ltb 65535 (length d) h) (either-way-16 (ltb m (at + length (commandOf b d))) (length (commandOf b d)))
+no_place_for_the_length : (b : CommandBuilder) (d : List ℕ) (m at : ℕ) → length d ≤ 65535 → too_short (serialize_of b d m at) ≡ refused 16
+unfolding serialize_of
+no_place_for_the_length b d m at h =
+    rw (le-ltb 65535 (length d) h) (either_way_16 (ltb m (at + length (command_of b d))) (length (command_of b d)))
 
 -- the builder has replied: it refused; it wrote the command
 module _ (b : CommandBuilder) (d : List ℕ) (at : ℕ) (l out : List ℕ) (h : 1 ≤ length out) (y : Length) (after : List ℕ)
-    (s : serialize-into-is b d l at y after) where
-  pub write-refused : (k : ℕ) → y ≡ Refused k → Serialized (ok b) d at l out k after out
-  write-refused k t =
+    (s : SerializeIntoIs b d l at y after) where
+  pub write_refused : (k : ℕ) → y ≡ Refused k → Serialized (ok b) d at l out k after out
+  write_refused k t =
       let n = le-ltb (length out) 1 h in
-      let f : serializeOf b d (length l) at ≡ refused k = sym s.reply ∙ ap lengthAsReply t in
+      let f : serialize_of b d (length l) at ≡ refused k = sym s.reply ∙ ap length_as_reply t in
       record { reply = rw (n, f); bytes = rw n s.buffer; row = rw (n, f) }
 
   pub done : (k : ℕ) (out' : List ℕ) → y ≡ Bytes k → out' ≡ over (k ∷ []) out → Serialized (ok b) d at l out 0 after out'
   done k out' t w =
       let n = le-ltb (length out) 1 h in
-      let f : serializeOf b d (length l) at ≡ ok k = sym s.reply ∙ ap lengthAsReply t in
+      let f : serialize_of b d (length l) at ≡ ok k = sym s.reply ∙ ap length_as_reply t in
       record { reply = rw (n, f); bytes = rw n s.buffer; row = rw (n, f) w }
 
 -- the code has made o: no builder; a builder, but no place for the length; a builder, and its command was written
-module _ (c i p q e m : ℕ) (d : List ℕ) (o : Built) (made : asReply o ≡ builderByNumbers c i p q e m d) (at : ℕ)
+module _ (c i p q e m : ℕ) (d : List ℕ) (o : Built) (made : as_reply o ≡ builder_by_numbers c i p q e m d) (at : ℕ)
     (l out : List ℕ) where
   abbrev x : Reply CommandBuilder
-  x = builderByNumbers c i p q e m d
+  x = builder_by_numbers c i p q e m d
 
-  pub not_made : (k r : ℕ) → o ≡ built.Refused k → refusal-status-is k (length out) 1 r → Serialized x d at l out r l out
+  pub not_made : (k r : ℕ) → o ≡ built.Refused k → RefusalStatusIs k (length out) 1 r → Serialized x d at l out r l out
   not_made k r g h =
-      let f : x ≡ refused k = sym made ∙ ap asReply g in
-      record { reply = rw (f, refusal-fitted) h; bytes = rw f; row = rw (f, refusal-fitted) }
+      let f : x ≡ refused k = sym made ∙ ap as_reply g in
+      record { reply = rw (f, refusal_fitted) h; bytes = rw f; row = rw (f, refusal_fitted) }
 
   module _ (b : CommandBuilder) (g : o ≡ built.Builder b) where
-    x-is : x ≡ ok b
-    x-is = sym made ∙ ap asReply g
+    x_is : x ≡ ok b
+    x_is = sym made ∙ ap as_reply g
 
-    pub out-short : length out < 1 → Serialized x d at l out 16 l out
-    out-short h =
+    pub out_short : length out < 1 → Serialized x d at l out 16 l out
+    out_short h =
         let n = lt-ltb (length out) 1 h in
-        let f = no-place-for-the-length b d (length l) at (all-is (λ k. length d ≤ 65535) x b (few c i p q e m d) x-is) in
-        record { reply = rw (x-is, n, f); bytes = rw (x-is, n, f); row = rw (x-is, n, f) }
+        let f = no_place_for_the_length b d (length l) at (all_is (λ k. length d ≤ 65535) x b (few c i p q e m d) x_is) in
+        record { reply = rw (x_is, n, f); bytes = rw (x_is, n, f); row = rw (x_is, n, f) }
 
     pub written : (r : ℕ) (after out' : List ℕ) → Serialized (ok b) d at l out r after out' → Serialized x d at l out r after out'
-    written r after out' s = subst (λ z. Serialized z d at l out r after out') (sym x-is) s
+    written r after out' s = subst (λ z. Serialized z d at l out r after out') (sym x_is) s

@@ -5,6 +5,6 @@ use Rattle.tlv.specs.Lookup.{Found, Halt}
 use Rattle.abi.specs.Answers.{Row, row}
 
 -- the place, the length of the value (0 if there is none), and how many tags matched
-abbrev pub lookupRow : Told Halt Found → Row
-lookupRow (ok p) = row 0 (p.at ∷ p.len ∷ p.matched ∷ [])
-lookupRow (refused h) = row h.number (h.place ∷ 0 ∷ h.matched ∷ [])
+abbrev pub lookup_row : Told Halt Found → Row
+lookup_row (ok p) = row 0 (p.at ∷ p.len ∷ p.matched ∷ [])
+lookup_row (refused h) = row h.number (h.place ∷ 0 ∷ h.matched ∷ [])

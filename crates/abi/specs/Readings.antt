@@ -2,20 +2,20 @@
 -- meaning.
 use Rattle.std.specs.Prelude.{ℕ, ◌≡◌, cond, eqb}
 use Rattle.class.specs.declared.Reading as class
-use Rattle.class.specs.declared.Reading.TheVariants as class-reading-by-number
+use Rattle.class.specs.declared.Reading.TheVariants as class_reading_by_number_cases
 use Rattle.tlv.specs.declared.Reading as tlv
-use Rattle.tlv.specs.declared.Reading.TheVariants as tlv-reading-by-number
+use Rattle.tlv.specs.declared.Reading.TheVariants as tlv_reading_by_number_cases
 
 -- the reading of a command, and of a BER record
-unfoldable pub classReadingByNumber : ℕ → class.Reading
-classReadingByNumber n = cond (eqb n 0) class-reading-by-number.Crate class-reading-by-number.Standard
+unfoldable pub class_reading_by_number : ℕ → class.Reading
+class_reading_by_number n = cond (eqb n 0) class_reading_by_number_cases.Crate class_reading_by_number_cases.Standard
 
-unfoldable pub tlvReadingByNumber : ℕ → tlv.Reading
-tlvReadingByNumber n = cond (eqb n 0) tlv-reading-by-number.Crate tlv-reading-by-number.Standard
+unfoldable pub tlv_reading_by_number : ℕ → tlv.Reading
+tlv_reading_by_number n = cond (eqb n 0) tlv_reading_by_number_cases.Crate tlv_reading_by_number_cases.Standard
 
 -- the promises of `class_reading_by_number` and `tlv_reading_by_number`
-abbrev pub class-reading-by-number-is : ℕ → class.Reading → Type 0
-class-reading-by-number-is n r = r ≡ classReadingByNumber n
+abbrev pub ClassReadingByNumberIs : ℕ → class.Reading → Type 0
+ClassReadingByNumberIs n r = r ≡ class_reading_by_number n
 
-abbrev pub tlv-reading-by-number-is : ℕ → tlv.Reading → Type 0
-tlv-reading-by-number-is n r = r ≡ tlvReadingByNumber n
+abbrev pub TlvReadingByNumberIs : ℕ → tlv.Reading → Type 0
+TlvReadingByNumberIs n r = r ≡ tlv_reading_by_number n

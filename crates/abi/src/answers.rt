@@ -1,7 +1,7 @@
 // How an exported function answers: a status, which is 0 or the number of a refusal, and numbers at the front of a lent
 // slice (rules 1.16, 1.22 and 1.24).
 ghost use Rattle.basis.specs.Reply.{ok};
-ghost use Rattle.abi.specs.Answers.{NumbersWritten, unlessRefused, row, RowTold, CopiedWith, BytesCopied, refusal-status-is, usable-len-is, flag_is};
+ghost use Rattle.abi.specs.Answers.{NumbersWritten, unless_refused, row, RowTold, CopiedWith, BytesCopied, RefusalStatusIs, UsableLenIs, FlagIs};
 ghost use Rattle.std.specs.Prelude.{length};
 
 // An answer as numbers: its refusal, or 0, and then two numbers.
@@ -26,7 +26,7 @@ pub fn write_numbers(numbers: &[u64], out: &mut [u64]) -> u8
 // The status of refusal k, if a slice of `lent` numbers was given and `needed` are needed: 16 if the slice is too short
 // and k is above 16, since the smaller number is given (rule 1.22).
 pub fn refusal_status(k: u8, lent: usize, needed: usize) -> u8
-    ensures { refusal-status-is k lent needed result }
+    ensures { RefusalStatusIs k lent needed result }
 {
     if lent < needed {
         if 16 < k {
@@ -39,14 +39,14 @@ pub fn refusal_status(k: u8, lent: usize, needed: usize) -> u8
 
 // How many of `len` bytes a function may use: none if `lent` numbers were given and more are needed.
 pub fn usable_len(len: usize, lent: usize, needed: usize) -> usize
-    ensures { usable-len-is len lent needed result }
+    ensures { UsableLenIs len lent needed result }
 {
     if lent < needed { 0 } else { len }
 }
 
 // Writes the numbers if the refusal given is 0; otherwise returns the status of that refusal.
 pub fn write_unless_refused(refusal: u8, numbers: &[u64], out: &mut [u64]) -> u8
-    ensures { NumbersWritten (length numbers.now) (unlessRefused refusal numbers.now) out.old result
+    ensures { NumbersWritten (length numbers.now) (unless_refused refusal numbers.now) out.old result
         out.new }
 {
     if refusal == 0 {
@@ -72,7 +72,7 @@ pub fn tell_row(status: u8, numbers: &[u64], out: &mut [u64]) -> u8
 
 // 1 for true and 0 for false.
 pub fn flag(b: bool) -> u64
-    ensures { flag_is b result }
+    ensures { FlagIs b result }
 {
     if b { 1 } else { 0 }
 }

@@ -1,11 +1,11 @@
 // A builder by numbers (rules 3.1 and 3.2).
-ghost use Rattle.abi.specs.Builders.{expected-len-by-number-is, mode-by-number-is, builder-by-numbers-is};
+ghost use Rattle.abi.specs.Builders.{ExpectedLenByNumberIs, ModeByNumberIs, BuilderByNumbersIs};
 
 use builder::{Built, CommandBuilder, ExpectedLen, ExtendedLen};
 
 // The expected length by number: any above 65,535 is Max (rule 3.1).
 pub fn expected_len_by_number(le: u32) -> ExpectedLen
-    ensures { expected-len-by-number-is le result }
+    ensures { ExpectedLenByNumberIs le result }
 {
     if le <= 65535 {
         return ExpectedLen::Ne(le as u16);
@@ -15,7 +15,7 @@ pub fn expected_len_by_number(le: u32) -> ExpectedLen
 
 // The mode by number: 0 short only, 1 extended supported, any other extended forced (rule 3.1).
 pub fn mode_by_number(mode: u8) -> ExtendedLen
-    ensures { mode-by-number-is mode result }
+    ensures { ModeByNumberIs mode result }
 {
     if mode == 0 {
         return ExtendedLen::Unsupported;
@@ -36,7 +36,7 @@ pub fn builder_by_numbers(
     mode: u8,
     data: &[u8],
 ) -> Built
-    ensures { builder-by-numbers-is class instruction p1 p2 le mode «data».now result }
+    ensures { BuilderByNumbersIs class instruction p1 p2 le mode «data».now result }
 {
     let expected = expected_len_by_number(le);
     let lengths = mode_by_number(mode);

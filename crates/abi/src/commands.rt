@@ -1,12 +1,12 @@
 // An owned command by numbers (rule 12.3).
-ghost use Rattle.abi.specs.Commands.{command-numbers-is, command-of-length-is};
+ghost use Rattle.abi.specs.Commands.{CommandNumbersIs, CommandOfLengthIs};
 
 use crate::answers::flag;
 use command::Command;
 
 // The seven numbers of a command: class, instruction, P1, P2, length of the data, Le, extended.
 pub fn command_numbers(command: Command) -> [u64; 7]
-    ensures { command-numbers-is command result }
+    ensures { CommandNumbersIs command result }
 {
     let class = command.class;
     [
@@ -22,7 +22,7 @@ pub fn command_numbers(command: Command) -> [u64; 7]
 
 // A command of which only the length of the data matters.
 pub fn command_of_length(len: usize) -> Command
-    ensures { command-of-length-is len result }
+    ensures { CommandOfLengthIs len result }
 {
     let class = class::ZERO_CLA;
     Command {

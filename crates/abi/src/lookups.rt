@@ -1,7 +1,7 @@
 // A lookup told to a host program (rules 15.3, 15.4 and 15.7).
-ghost use Rattle.tlv.specs.Lookup.{asReply};
+ghost use Rattle.tlv.specs.Lookup.{as_reply};
 ghost use Rattle.abi.specs.Answers.{RowTold};
-ghost use Rattle.abi.specs.Lookups.{lookupRow};
+ghost use Rattle.abi.specs.Lookups.{lookup_row};
 
 use crate::answers::tell_row;
 use tlv::GetDataObject;
@@ -9,7 +9,7 @@ use tlv::GetDataObject;
 // Writes 3 numbers, with 11 and 12 too: the place in the record of the value, of the end reached (11) or of the object
 // that cannot be read (12); the length of the value, or 0; how many tags of the path matched.
 pub fn tell_lookup(found: GetDataObject, out: &mut [u64]) -> u8
-    ensures { RowTold (lookupRow (asReply found)) out.old result out.new }
+    ensures { RowTold (lookup_row (as_reply found)) out.old result out.new }
 {
     match found {
         GetDataObject::End(place, matched) => {

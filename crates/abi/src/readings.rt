@@ -1,9 +1,9 @@
 // A reading by its number: 0 is the crate reading, any other number the standard reading.
-ghost use Rattle.abi.specs.Readings.{class-reading-by-number-is, tlv-reading-by-number-is};
+ghost use Rattle.abi.specs.Readings.{ClassReadingByNumberIs, TlvReadingByNumberIs};
 
 // The reading of a command.
 pub fn class_reading_by_number(number: u8) -> class::Reading
-    ensures { class-reading-by-number-is number result }
+    ensures { ClassReadingByNumberIs number result }
 {
     if number == 0 {
         return class::Reading::Crate;
@@ -13,7 +13,7 @@ pub fn class_reading_by_number(number: u8) -> class::Reading
 
 // The reading of a BER record.
 pub fn tlv_reading_by_number(number: u8) -> tlv::Reading
-    ensures { tlv-reading-by-number-is number result }
+    ensures { TlvReadingByNumberIs number result }
 {
     if number == 0 {
         return tlv::Reading::Crate;

@@ -11,25 +11,25 @@ use lib.ListN.{length, get_or, replicate}
 use Rattle.basis.specs.Over.{over}
 use Rattle.basis.specs.Reply.{Reply, ok, refused}
 use Rattle.basis.proofs.Reply.{refused_not_ok}
-use Rattle.aid.specs.Category.{categoryOf}
-use Rattle.aid.specs.Making.{underFive, tested, tryNew, blank, try-new-truncatable-is}
+use Rattle.aid.specs.Category.{category_of}
+use Rattle.aid.specs.Making.{under_five, tested, try_new, blank, TryNewTruncatableIs}
 use Rattle.aid.specs.declared.Answer.TheVariants.{Made, Refused}
 use Rattle.aid.specs.declared.TryNew.{TryNew}
-use Rattle.aid.proofs.Categories.{is-international, is-national}
+use Rattle.aid.proofs.Categories.{is_international, is_national}
 
 -- names of under five bytes, by the high half of the first (rules 1.9 and 1.10)
 module _ (b : ℕ) where
-  pub national-short : b / 16 ≡ 0xD → underFive b ≡ refused 9
-  unfolding underFive
-  national-short h = rw (is-national b h)
+  pub national_short : b / 16 ≡ 0xD → under_five b ≡ refused 9
+  unfolding under_five
+  national_short h = rw (is_national b h)
 
-  pub international-short : b / 16 ≡ 0xA → underFive b ≡ refused 10
-  unfolding underFive
-  international-short h = rw (is-international b h)
+  pub international_short : b / 16 ≡ 0xA → under_five b ≡ refused 10
+  unfolding under_five
+  international_short h = rw (is_international b h)
 
-  pub other-short : (b / 16 ≡ 0xA → ⊥) → (b / 16 ≡ 0xD → ⊥) → underFive b ≡ ok tt
-  unfolding underFive categoryOf
-  other-short h g = rw (ne_eqb (b / 16) 0xA h, ne_eqb (b / 16) 0xD g) (pick (eqb (b / 16) 0xE) (eqb (b / 16) 0xF))
+  pub other_short : (b / 16 ≡ 0xA → ⊥) → (b / 16 ≡ 0xD → ⊥) → under_five b ≡ ok tt
+  unfolding under_five category_of
+  other_short h g = rw (ne_eqb (b / 16) 0xA h, ne_eqb (b / 16) 0xD g) (pick (eqb (b / 16) 0xE) (eqb (b / 16) 0xF))
     where
       pick : (x y : Bool) → ◌≡◌ {A = Reply (Unit {0})}
           (cond (eqb (cond x 2 (cond y 3 4)) 1) (refused 9) (cond (eqb (cond x 2 (cond y 3 4)) 0) (refused 10) (ok tt))) (ok tt)
@@ -54,55 +54,55 @@ module _ (name : List ℕ) (t : ℕ) where
   unfolding tested
   too_long h = rw (ne_eqb (length name) 0 (omega arith), lt-ltb 16 (length name) h)
 
-  pub truncated-above : 1 ≤ length name → length name ≤ 16 → length name < t → tested name t ≡ refused 8
+  pub truncated_above : 1 ≤ length name → length name ≤ 16 → length name < t → tested name t ≡ refused 8
   unfolding tested
-  truncated-above s m h = rw (ne_eqb (length name) 0 (omega arith), le-ltb 16 (length name) m, lt-ltb (length name) t h)
+  truncated_above s m h = rw (ne_eqb (length name) 0 (omega arith), le-ltb 16 (length name) m, lt-ltb (length name) t h)
 
-  pub under-five-by-first : 1 ≤ length name → t ≤ length name → length name < 5 → tested name t ≡ underFive (get_or name 0 0)
+  pub under_five_by_first : 1 ≤ length name → t ≤ length name → length name < 5 → tested name t ≡ under_five (get_or name 0 0)
   unfolding tested
-  under-five-by-first s c h =
+  under_five_by_first s c h =
       rw (ne_eqb (length name) 0 (omega arith), le-ltb 16 (length name) (omega arith), le-ltb (length name) t c, lt-ltb (length name) 5 h)
 
-  pub from-five-bytes : length name ≤ 16 → t ≤ length name → 5 ≤ length name → tested name t ≡ ok tt
+  pub from_five_bytes : length name ≤ 16 → t ≤ length name → 5 ≤ length name → tested name t ≡ ok tt
   unfolding tested
-  from-five-bytes m c h =
+  from_five_bytes m c h =
       rw (ne_eqb (length name) 0 (omega arith), le-ltb 16 (length name) m, le-ltb (length name) t c, le-ltb (length name) 5 h)
 
   -- exactly these names pass the tests (rule 9.1)
-  pub valid-passes : ValidName name t → tested name t ≡ ok tt
-  valid-passes h =
+  pub valid_passes : ValidName name t → tested name t ≡ ok tt
+  valid_passes h =
       elim (dec_le 5 (length name)) [
-        | yes g ↦ from-five-bytes (omega arith) (omega arith) g
+        | yes g ↦ from_five_bytes (omega arith) (omega arith) g
         | no g ↦
-            under-five-by-first (omega arith) (omega arith) (omega arith)
-            ∙ other-short (get_or name 0 0) (h.international (omega arith)) (h.national (omega arith))
+            under_five_by_first (omega arith) (omega arith) (omega arith)
+            ∙ other_short (get_or name 0 0) (h.international (omega arith)) (h.national (omega arith))
       ]
 
-  pub passing-valid : tested name t ≡ ok tt → ValidName name t
-  passing-valid e =
+  pub passing_valid : tested name t ≡ ok tt → ValidName name t
+  passing_valid e =
       let s : 1 ≤ length name = elim (dec_le 1 (length name)) [ yes p ↦ p | no p ↦ absurd (never 6 (empty_name (omega arith))) ] in
       let m : length name ≤ 16 = elim (dec_le (length name) 16) [ yes p ↦ p | no p ↦ absurd (never 7 (too_long (omega arith))) ] in
-      let c : t ≤ length name = elim (dec_le t (length name)) [ yes p ↦ p | no p ↦ absurd (never 8 (truncated-above s m (omega arith))) ] in
+      let c : t ≤ length name = elim (dec_le t (length name)) [ yes p ↦ p | no p ↦ absurd (never 8 (truncated_above s m (omega arith))) ] in
       record {
         some = omega arith;
         most = omega arith;
         cut = omega arith;
-        international = λ g h. never 10 (under-five-by-first s c g ∙ international-short _ h);
-        national = λ g h. never 9 (under-five-by-first s c g ∙ national-short _ h);
+        international = λ g h. never 10 (under_five_by_first s c g ∙ international_short _ h);
+        national = λ g h. never 9 (under_five_by_first s c g ∙ national_short _ h);
       }
     where
       never : (k : ℕ) → tested name t ≡ refused k → ⊥
       never k h = refused_not_ok k tt (sym h ∙ e)
 
   -- what the code returns for a name that passes; for one that is refused; the same for an equal truncated length
-  pub made-from-name : tested name t ≡ ok tt → (bs : List ℕ) (n u : ℕ) → bs ≡ over name (replicate 16 0) → n ≡ length name → u ≡ t
-      → try-new-truncatable-is name t (record { answer = Made; aid = record { bytes = bs; len = n; truncated = u } })
-  unfolding tryNew
-  made-from-name e bs n u eb en eu = record { answered = rw (e, eb, en, eu); from-name = rw (e, eb, en, eu) }
+  pub made_from_name : tested name t ≡ ok tt → (bs : List ℕ) (n u : ℕ) → bs ≡ over name (replicate 16 0) → n ≡ length name → u ≡ t
+      → TryNewTruncatableIs name t (record { answer = Made; aid = record { bytes = bs; len = n; truncated = u } })
+  unfolding try_new
+  made_from_name e bs n u eb en eu = record { answered = rw (e, eb, en, eu); from_name = rw (e, eb, en, eu) }
 
-  pub name-refused : (k j : ℕ) → tested name t ≡ refused k → j ≡ k → try-new-truncatable-is name t (record { answer = Refused j; aid = blank })
-  unfolding tryNew
-  name-refused k j e h = record { answered = rw (e, h); from-name = rw e }
+  pub name_refused : (k j : ℕ) → tested name t ≡ refused k → j ≡ k → TryNewTruncatableIs name t (record { answer = Refused j; aid = blank })
+  unfolding try_new
+  name_refused k j e h = record { answered = rw (e, h); from_name = rw e }
 
-  pub same-truncated : (u : ℕ) (r : TryNew) → try-new-truncatable-is name u r → u ≡ t → try-new-truncatable-is name t r
-  same-truncated u r h e = subst (λ (n : ℕ). try-new-truncatable-is name n r) e h
+  pub same_truncated : (u : ℕ) (r : TryNew) → TryNewTruncatableIs name u r → u ≡ t → TryNewTruncatableIs name t r
+  same_truncated u r h e = subst (λ (n : ℕ). TryNewTruncatableIs name n r) e h

@@ -12,16 +12,16 @@ use lib.Seq.{take-take}
 use Rattle.byte_slices.specs.Slices.{same}
 use Rattle.byte_slices.proofs.Slices.{same_self, other_length}
 use Rattle.aid.specs.Parts.{whole}
-use Rattle.aid.specs.Matches.{matchesOf}
+use Rattle.aid.specs.Matches.{matches_of}
 use Rattle.aid.specs.declared.Aid.{Aid}
 
 module _ (a : Aid) (name : List ℕ) where
-  pub too_short : length name < a.truncated → false ≡ matchesOf a name
-  unfolding matchesOf
+  pub too_short : length name < a.truncated → false ≡ matches_of a name
+  unfolding matches_of
   too_short h = rw (lt-ltb (length name) a.truncated h)
 
-  pub too_long : length (whole a) < length name → false ≡ matchesOf a name
-  unfolding matchesOf
+  pub too_long : length (whole a) < length name → false ≡ matches_of a name
+  unfolding matches_of
   too_long h =
       elim (dec_lt (length name) a.truncated) [
         | yes g ↦ too_short g
@@ -31,14 +31,14 @@ module _ (a : Aid) (name : List ℕ) where
       ]
 
   -- any other name is compared with as many of the bytes
-  pub compared-with-front : a.truncated ≤ length name → length name ≤ a.len → same name (take (length name) a.bytes) ≡ matchesOf a name
-  unfolding matchesOf
-  compared-with-front h g = rw (le-ltb (length name) a.truncated h, take-take)
+  pub compared_with_front : a.truncated ≤ length name → length name ≤ a.len → same name (take (length name) a.bytes) ≡ matches_of a name
+  unfolding matches_of
+  compared_with_front h g = rw (le-ltb (length name) a.truncated h, take-take)
 
 -- the empty name matches an AID of truncated length 0, and no other (rule 9.6)
-pub empty-name-matches : (a : Aid) → a.truncated ≡ 0 → matchesOf a [] ≡ true
-unfolding matchesOf
-empty-name-matches a e = rw (le-ltb 0 a.truncated (omega (arith, e))) (same_self [])
+pub empty_name_matches : (a : Aid) → a.truncated ≡ 0 → matches_of a [] ≡ true
+unfolding matches_of
+empty_name_matches a e = rw (le-ltb 0 a.truncated (omega (arith, e))) (same_self [])
 
-pub empty-name-too-short : (a : Aid) → 1 ≤ a.truncated → matchesOf a [] ≡ false
-empty-name-too-short a h = sym (too_short a [] (omega arith))
+pub empty_name_too_short : (a : Aid) → 1 ≤ a.truncated → matches_of a [] ≡ false
+empty_name_too_short a h = sym (too_short a [] (omega arith))

@@ -21,31 +21,31 @@ abbrev pub other : ℕ
 other = 4
 
 -- the category of a name that starts with this byte (rule 9.3)
-unfoldable pub categoryOf : ℕ → ℕ
-categoryOf b =
+unfoldable pub category_of : ℕ → ℕ
+category_of b =
     cond (eqb (b / 16) 0xA) international
     (cond (eqb (b / 16) 0xD) national
     (cond (eqb (b / 16) 0xE) standard (cond (eqb (b / 16) 0xF) proprietary other)))
 
 -- the category of an AID
 abbrev pub category : Aid → ℕ
-category a = categoryOf (get_or a.bytes 0 0)
+category a = category_of (get_or a.bytes 0 0)
 
 -- whether an AID is of a category
-abbrev pub isIn : ℕ → Aid → Bool
-isIn k a = eqb (category a) k
+abbrev pub is_in : ℕ → Aid → Bool
+is_in k a = eqb (category a) k
 
 -- an answer of the code as its number
-abbrev pub categoryAsNumber : Category → ℕ
-categoryAsNumber International = international
-categoryAsNumber National = national
-categoryAsNumber Standard = standard
-categoryAsNumber Proprietary = proprietary
-categoryAsNumber Other = other
+abbrev pub category_as_number : Category → ℕ
+category_as_number International = international
+category_as_number National = national
+category_as_number Standard = standard
+category_as_number Proprietary = proprietary
+category_as_number Other = other
 
 -- the promises of `category`, and of `is_international`, `is_national`, `is_standard` and `is_proprietary`
-abbrev pub category-is : Aid → Category → Type 0
-category-is a r = categoryAsNumber r ≡ category a
+abbrev pub CategoryIs : Aid → Category → Type 0
+CategoryIs a r = category_as_number r ≡ category a
 
-abbrev pub is-in-is : ℕ → Aid → Bool → Type 0
-is-in-is k a r = r ≡ isIn k a
+abbrev pub IsInIs : ℕ → Aid → Bool → Type 0
+IsInIs k a r = r ≡ is_in k a

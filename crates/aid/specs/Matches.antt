@@ -10,9 +10,9 @@ prefix s l = same s (take (length s) l)
 
 -- whether a name matches an AID: a prefix of its bytes, at least as long as the truncated length (rule 9.5). With
 -- truncated length 0 the empty name matches (rule 9.6)
-unfoldable pub matchesOf : Aid → List ℕ → Bool
-matchesOf a name = cond (ltb (length name) a.truncated) false (prefix name (whole a))
+unfoldable pub matches_of : Aid → List ℕ → Bool
+matches_of a name = cond (ltb (length name) a.truncated) false (prefix name (whole a))
 
 -- the promise of `matches`
-abbrev pub matches-is : Aid → List ℕ → Bool → Type 0
-matches-is a name r = r ≡ matchesOf a name
+abbrev pub MatchesIs : Aid → List ℕ → Bool → Type 0
+MatchesIs a name r = r ≡ matches_of a name

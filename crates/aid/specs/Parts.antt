@@ -24,15 +24,15 @@ abbrev pub registered : ℕ → Bool
 registered k = cond (eqb k international) true (eqb k national)
 
 -- only a national or international AID of at least five bytes has a RID and a PIX (rule 9.4)
-unfoldable pub hasRid : Aid → Bool
-hasRid a = cond (registered (category a)) (leb 5 (length (whole a))) false
+unfoldable pub has_rid : Aid → Bool
+has_rid a = cond (registered (category a)) (leb 5 (length (whole a))) false
 
 -- a part of an AID: all its bytes, the truncated part, the RID of five bytes, the PIX after it (rule 9.4)
 unfoldable pub part_of : Part → Aid → Option (List ℕ)
 part_of part.Bytes a = some (whole a)
 part_of part.Truncated a = some (take a.truncated a.bytes)
-part_of part.Rid a = cond (hasRid a) (some (take 5 (whole a))) none
-part_of part.Pix a = cond (hasRid a) (some (drop 5 (whole a))) none
+part_of part.Rid a = cond (has_rid a) (some (take 5 (whole a))) none
+part_of part.Pix a = cond (has_rid a) (some (drop 5 (whole a))) none
 
 -- the length of a part
 abbrev pub length_of : Option (List ℕ) → Option ℕ
@@ -44,37 +44,37 @@ abbrev pub copy_of : Option (List ℕ) → ℕ → Reply (Option ℕ)
 copy_of none n = ok none
 copy_of (some l) n = cond (ltb n (length l)) (refused 16) (ok (some (length l)))
 
-abbrev pub copyTo : Option (List ℕ) → List ℕ → List ℕ
-copyTo none to = to
-copyTo (some l) to = cond (ltb (length to) (length l)) to (over l to)
+abbrev pub copy_to : Option (List ℕ) → List ℕ → List ℕ
+copy_to none to = to
+copy_to (some l) to = cond (ltb (length to) (length l)) to (over l to)
 
 -- the answers of the code in these forms
-abbrev pub lengthAsOption : Length → Option ℕ
-lengthAsOption (len.Bytes n) = some n
-lengthAsOption len.None = none
+abbrev pub length_as_option : Length → Option ℕ
+length_as_option (len.Bytes n) = some n
+length_as_option len.None = none
 
-abbrev pub copiedAsReply : Copied → Reply (Option ℕ)
-copiedAsReply (copied.Bytes n) = ok (some n)
-copiedAsReply copied.None = ok none
-copiedAsReply (copied.Refused k) = refused k
+abbrev pub copied_as_reply : Copied → Reply (Option ℕ)
+copied_as_reply (copied.Bytes n) = ok (some n)
+copied_as_reply copied.None = ok none
+copied_as_reply (copied.Refused k) = refused k
 
 -- the promises of `part_len` and `copy_part`
-abbrev pub part-len-is : Part → Aid → Length → Type 0
-part-len-is p a r = lengthAsOption r ≡ length_of (part_of p a)
+abbrev pub PartLenIs : Part → Aid → Length → Type 0
+PartLenIs p a r = length_as_option r ≡ length_of (part_of p a)
 
-pub record copy-part-is (p : Part) (a : Aid) (to : List ℕ) (r : Copied) (after : List ℕ) : Type 0 where
-  pub reply : copiedAsReply r ≡ copy_of (part_of p a) (length to)
-  pub buffer : after ≡ copyTo (part_of p a) to
+pub record CopyPartIs (p : Part) (a : Aid) (to : List ℕ) (r : Copied) (after : List ℕ) : Type 0 where
+  pub reply : copied_as_reply r ≡ copy_of (part_of p a) (length to)
+  pub buffer : after ≡ copy_to (part_of p a) to
 
 -- the contract of the private `span_of`: a span of the 16 bytes lies in them and holds the bytes of the part
-abbrev pub spanBytes : List ℕ → Span → Option (List ℕ)
-spanBytes l (span.Of s e) = some (take (e - s) (drop s l))
-spanBytes l span.None = none
+abbrev pub span_bytes : List ℕ → Span → Option (List ℕ)
+span_bytes l (span.Of s e) = some (take (e - s) (drop s l))
+span_bytes l span.None = none
 
 abbrev pub SpanInside : Span → Type 0
 SpanInside (span.Of s e) = (s ≤ e) × (e ≤ 16)
 SpanInside span.None = Unit {0}
 
 pub record SpanFor (p : Part) (a : Aid) (r : Span) : Type 0 where
-  pub shows : spanBytes a.bytes r ≡ part_of p a
+  pub shows : span_bytes a.bytes r ≡ part_of p a
   pub inside : SpanInside r

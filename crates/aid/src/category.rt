@@ -1,7 +1,7 @@
 // The category of an AID (rule 9.3).
 // Ported, with changes, from src/aid.rs of the crate iso7816 0.2.2 (see NOTICE).
 ghost use Rattle.std.specs.Prelude.{◌≡◌};
-ghost use Rattle.aid.specs.Category.{international, national, standard, proprietary, categoryOf, categoryAsNumber, category-is, is-in-is};
+ghost use Rattle.aid.specs.Category.{international, national, standard, proprietary, category_of, category_as_number, CategoryIs, IsInIs};
 
 use crate::Aid;
 
@@ -17,7 +17,7 @@ pub enum Category {
 
 // The category of a name that starts with this byte (rule 9.3).
 pub(crate) fn of(first: u8) -> Category
-    ensures { categoryAsNumber result ≡ categoryOf first }
+    ensures { category_as_number result ≡ category_of first }
 {
     let high = first / 16;
     match high {
@@ -31,7 +31,7 @@ pub(crate) fn of(first: u8) -> Category
 
 // The number of a category, to compare two of them.
 fn number(k: Category) -> u8
-    ensures { result ≡ categoryAsNumber k }
+    ensures { result ≡ category_as_number k }
 {
     match k {
         Category::International => 0,
@@ -45,7 +45,7 @@ fn number(k: Category) -> u8
 impl Aid {
     // The category of the first byte.
     pub fn category(self) -> Category
-        ensures { category-is self result }
+        ensures { CategoryIs self result }
     {
         let bytes = self.bytes;
         of(bytes[0])
@@ -53,32 +53,32 @@ impl Aid {
 
     // Whether an AID is of this category.
     fn is_in(self, k: Category) -> bool
-        ensures { is-in-is (categoryAsNumber k) self result }
+        ensures { IsInIs (category_as_number k) self result }
     {
         number(self.category()) == number(k)
     }
 
     // One test for each category but `Other`.
     pub fn is_international(self) -> bool
-        ensures { is-in-is international self result }
+        ensures { IsInIs international self result }
     {
         self.is_in(Category::International)
     }
 
     pub fn is_national(self) -> bool
-        ensures { is-in-is national self result }
+        ensures { IsInIs national self result }
     {
         self.is_in(Category::National)
     }
 
     pub fn is_standard(self) -> bool
-        ensures { is-in-is standard self result }
+        ensures { IsInIs standard self result }
     {
         self.is_in(Category::Standard)
     }
 
     pub fn is_proprietary(self) -> bool
-        ensures { is-in-is proprietary self result }
+        ensures { IsInIs proprietary self result }
     {
         self.is_in(Category::Proprietary)
     }

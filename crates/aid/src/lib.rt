@@ -1,7 +1,7 @@
 // Application identifiers (AIDs): making one, its category, its parts, and matching a name.
 // Ported, with changes, from src/aid.rs of the crate iso7816 0.2.2 (see NOTICE).
 ghost use Rattle.std.specs.Prelude.{◌≡◌};
-ghost use Rattle.aid.specs.Making.{tested, underFive, asReply, try-new-is, try-new-truncatable-is};
+ghost use Rattle.aid.specs.Making.{tested, under_five, as_reply, TryNewIs, TryNewTruncatableIs};
 
 mod category;
 mod matches;
@@ -42,7 +42,7 @@ const BLANK: Aid = Aid {
 
 // Whether a name of under five bytes may be an AID, by its first byte (rules 1.9 and 1.10).
 fn under_five(first: u8) -> Answer
-    ensures { asReply result ≡ underFive first }
+    ensures { as_reply result ≡ under_five first }
 {
     match category::of(first) {
         Category::National => Answer::Refused(9),
@@ -55,7 +55,7 @@ fn under_five(first: u8) -> Answer
 
 // Whether a name may be an AID with this truncated length (rule 9.1).
 fn test_name(aid: &[u8], truncated_len: usize) -> Answer
-    ensures { asReply result ≡ tested aid.now truncated_len }
+    ensures { as_reply result ≡ tested aid.now truncated_len }
 {
     let n = aid.len();
     if n == 0 {
@@ -76,7 +76,7 @@ fn test_name(aid: &[u8], truncated_len: usize) -> Answer
 impl Aid {
     // The AID of a name without a truncated length: it has its own length for it (rule 9.2).
     pub fn try_new(aid: &[u8]) -> TryNew
-        ensures { try-new-is aid.now result }
+        ensures { TryNewIs aid.now result }
     {
         let n = aid.len();
         Aid::try_new_truncatable(aid, n)
@@ -84,7 +84,7 @@ impl Aid {
 
     // The AID of a name that may be truncated to a length (rule 9.1).
     pub fn try_new_truncatable(aid: &[u8], truncated_len: usize) -> TryNew
-        ensures { try-new-truncatable-is aid.now truncated_len result }
+        ensures { TryNewTruncatableIs aid.now truncated_len result }
     {
         match test_name(aid, truncated_len) {
             Answer::Refused(k) => TryNew {

@@ -1,7 +1,7 @@
 // The parts of an AID, as lengths and copies (rule 9.4).
 // Ported, with changes, from src/aid.rs of the crate iso7816 0.2.2 (see NOTICE).
 ghost use Rattle.std.specs.Prelude.{◌≡◌, min};
-ghost use Rattle.aid.specs.Parts.{hasRid, SpanFor, part-len-is, copy-part-is};
+ghost use Rattle.aid.specs.Parts.{has_rid, SpanFor, PartLenIs, CopyPartIs};
 
 use crate::{Aid, Category};
 
@@ -46,7 +46,7 @@ pub(crate) fn up_to_16(n: usize) -> usize
 
 // Whether an AID has a RID and a PIX: it is national or international, and has at least five bytes (rule 9.4).
 fn has_rid(aid: Aid) -> bool
-    ensures { result ≡ hasRid aid }
+    ensures { result ≡ has_rid aid }
 {
     let long = 5 <= up_to_16(aid.len);
     match aid.category() {
@@ -86,7 +86,7 @@ fn span_of(aid: Aid, part: Part) -> Span
 impl Aid {
     // How many bytes a part has.
     pub fn part_len(self, part: Part) -> Length
-        ensures { part-len-is part self result }
+        ensures { PartLenIs part self result }
     {
         match span_of(self, part) {
             Span::Of(start, end) => Length::Bytes(end - start),
@@ -96,7 +96,7 @@ impl Aid {
 
     // Copies a part to the front of a lent buffer (rule 9.4).
     pub fn copy_part(self, part: Part, to: &mut [u8]) -> Copied
-        ensures { copy-part-is part self to.old result to.new }
+        ensures { CopyPartIs part self to.old result to.new }
     {
         match span_of(self, part) {
             Span::None => Copied::None,

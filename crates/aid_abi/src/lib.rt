@@ -2,19 +2,19 @@
 // length make. Each function returns 0, or the number of a refusal (docs/RULES.md, section 1). It writes its numbers to
 // the front of the slice `out`, unless it refuses.
 ghost use Rattle.std.specs.Prelude.{◌≡◌};
-ghost use Rattle.aid.specs.Category.{categoryAsNumber};
-ghost use Rattle.aid.specs.Making.{tryNew};
-ghost use Rattle.aid.specs.Parts.{lengthAsOption};
+ghost use Rattle.aid.specs.Category.{category_as_number};
+ghost use Rattle.aid.specs.Making.{try_new};
+ghost use Rattle.aid.specs.Parts.{length_as_option};
 ghost use Rattle.basis.specs.Reply.{ok};
-ghost use Rattle.abi.specs.Answers.{NumbersWritten, orNone};
-ghost use Rattle.aid_abi.specs.Numbers.{numbersOf, partByNumber, madeReply, aidReply, aidWholeReply, aidMatchesReply, PartCopied};
+ghost use Rattle.abi.specs.Answers.{NumbersWritten, or_none};
+ghost use Rattle.aid_abi.specs.Numbers.{numbers_of, part_by_number, made_reply, aid_reply, aid_whole_reply, aid_matches_reply, PartCopied};
 
 use abi::{flag, refusal_status, write_numbers};
 use aid::{Aid, Answer, Category, Copied, Length, Part, TryNew};
 
 // The number of a category.
 fn category_number(category: Category) -> u64
-    ensures { result ≡ categoryAsNumber category }
+    ensures { result ≡ category_as_number category }
 {
     match category {
         Category::International => 0,
@@ -27,7 +27,7 @@ fn category_number(category: Category) -> u64
 
 // A length as a number, 256 if there is no such part.
 fn length_number(length: Length) -> u64
-    ensures { result ≡ orNone (lengthAsOption length) }
+    ensures { result ≡ or_none (length_as_option length) }
 {
     match length {
         Length::Bytes(n) => n as u64,
@@ -37,7 +37,7 @@ fn length_number(length: Length) -> u64
 
 // The part by number: 0 all bytes, 1 the truncated part, 2 the RID, any other the PIX.
 fn part_by_number(part: u8) -> Part
-    ensures { result ≡ partByNumber part }
+    ensures { result ≡ part_by_number part }
 {
     match part {
         0 => Part::Bytes,
@@ -49,7 +49,7 @@ fn part_by_number(part: u8) -> Part
 
 // The nine numbers of an AID.
 fn numbers(aid: Aid) -> [u64; 9]
-    ensures { result ≡ numbersOf aid }
+    ensures { result ≡ numbers_of aid }
 {
     [
         length_number(aid.part_len(Part::Bytes)),
@@ -66,7 +66,7 @@ fn numbers(aid: Aid) -> [u64; 9]
 
 // Writes the nine numbers of the AID that was made of a name, unless it was refused.
 fn write_made(made: TryNew, out: &mut [u64]) -> u8
-    ensures { NumbersWritten 9 (madeReply made) out.old result out.new }
+    ensures { NumbersWritten 9 (made_reply made) out.old result out.new }
 {
     let answer = made.answer;
     match answer {
@@ -82,7 +82,7 @@ fn write_made(made: TryNew, out: &mut [u64]) -> u8
 // PIX, 256 for none (rule 9.4).
 #[unsafe(no_mangle)]
 pub extern "C" fn gorvisclen_aid(name: &[u8], truncated_len: usize, out: &mut [u64]) -> u8
-    ensures { NumbersWritten 9 (aidReply name.now truncated_len) out.old result out.new }
+    ensures { NumbersWritten 9 (aid_reply name.now truncated_len) out.old result out.new }
 {
     write_made(Aid::try_new_truncatable(name, truncated_len), out)
 }
@@ -90,7 +90,7 @@ pub extern "C" fn gorvisclen_aid(name: &[u8], truncated_len: usize, out: &mut [u
 // Writes the same 9 numbers of an AID that is made without a truncated length (rule 9.2).
 #[unsafe(no_mangle)]
 pub extern "C" fn gorvisclen_aid_whole(name: &[u8], out: &mut [u64]) -> u8
-    ensures { NumbersWritten 9 (aidWholeReply name.now) out.old result out.new }
+    ensures { NumbersWritten 9 (aid_whole_reply name.now) out.old result out.new }
 {
     write_made(Aid::try_new(name), out)
 }
@@ -103,7 +103,7 @@ pub extern "C" fn gorvisclen_aid_matches(
     asked: &[u8],
     out: &mut [u64],
 ) -> u8
-    ensures { NumbersWritten 1 (aidMatchesReply name.now truncated_len asked.now) out.old result out.new }
+    ensures { NumbersWritten 1 (aid_matches_reply name.now truncated_len asked.now) out.old result out.new }
 {
     let made = Aid::try_new_truncatable(name, truncated_len);
     let answer = made.answer;
@@ -145,7 +145,7 @@ pub extern "C" fn gorvisclen_aid_part(
     to: &mut [u8],
     out: &mut [u64],
 ) -> u8
-    ensures { PartCopied (partByNumber part) (tryNew name.now truncated_len) to.old out.old result
+    ensures { PartCopied (part_by_number part) (try_new name.now truncated_len) to.old out.old result
         to.new out.new }
 {
     let made = Aid::try_new_truncatable(name, truncated_len);

@@ -8,23 +8,23 @@ use native.Mathlib.Numerals.{add-one}
 use native.Mathlib.Omega.{arith}
 use lib.ListN.{length, take, drop, set, get_or, length-append, length-drop, drop_of_length-le}
 use lib.Seq.{take-nil, paste-suc, take-length, sets, sets-eq, take_all, take_at, take-take, take-append-le, drop_at, drop-drop, length-take-le, drop-append-add}
-use Rattle.basis.specs.Over.{over, overAt}
+use Rattle.basis.specs.Over.{over, over_at}
 
 -- `&s[n..]` is what remains after the first n elements
-pub rest-is : (n : ℕ) (l : List ℕ) → take (length l - n) (drop n l) ≡ drop n l
-rest-is n l = take_all (length l - n) (drop n l) (simp length-drop (omega arith))
+pub rest_is : (n : ℕ) (l : List ℕ) → take (length l - n) (drop n l) ≡ drop n l
+rest_is n l = take_all (length l - n) (drop n l) (simp length-drop (omega arith))
 
-pub drop-take : (s n : ℕ) (l : List ℕ) → drop s (take n l) ≡ take (n - s) (drop s l)
-drop-take zero n l = rw sub-zero
-drop-take (suc s) zero l = rw zero-sub
-drop-take (suc s) (suc n) [] = rw take-nil
-drop-take (suc s) (suc n) (x ∷ l) = rw suc-sub-suc (drop-take s n l)
+pub drop_take : (s n : ℕ) (l : List ℕ) → drop s (take n l) ≡ take (n - s) (drop s l)
+drop_take zero n l = rw sub-zero
+drop_take (suc s) zero l = rw zero-sub
+drop_take (suc s) (suc n) [] = rw take-nil
+drop_take (suc s) (suc n) (x ∷ l) = rw suc-sub-suc (drop_take s n l)
 
 -- a list of k elements, from place s up to place n or its end
-pub part-is : (s n k : ℕ) (l : List ℕ) → length l ≡ k → take (min n k - s) (drop s l) ≡ drop s (take n l)
-part-is s n k l e =
+pub part_is : (s n k : ℕ) (l : List ℕ) → length l ≡ k → take (min n k - s) (drop s l) ≡ drop s (take n l)
+part_is s n k l e =
     elim (dec_le n k) [
-      | yes h ↦ rw (min-eq_left h, drop-take)
+      | yes h ↦ rw (min-eq_left h, drop_take)
       | no h ↦
           take_all (min n k - s) (drop s l) (simp length-drop (omega arith))
           ∙ sym (ap (λ (m : List ℕ). drop s m) (take_all n l (omega arith)))
@@ -40,34 +40,34 @@ pub copied : (vs l : List ℕ) → take (length vs) vs ++ drop (length vs) l ≡
 unfolding over
 copied vs l = rw take-length
 
-pub copy-next : (vs l : List ℕ) (j : ℕ) → j < length vs → length vs ≤ length l
+pub copy_next : (vs l : List ℕ) (j : ℕ) → j < length vs → length vs ≤ length l
     → set (take j vs ++ drop j l) j (get_or vs j 0) ≡ take (j + 1) vs ++ drop (j + 1) l
-copy-next vs l j h g = rw add-one (simp zero-add at (paste-suc l 0 vs j 0 (omega arith) h))
+copy_next vs l j h g = rw add-one (simp zero-add at (paste-suc l 0 vs j 0 (omega arith) h))
 
 pub length_over : (vs l : List ℕ) → length vs ≤ length l → length (over vs l) ≡ length l
 unfolding over
 length_over vs l h = simp (length-append, length-drop) (omega arith)
 
-pub over-at-zero : (vs l : List ℕ) → overAt 0 vs l ≡ over vs l
-unfolding overAt over
-over-at-zero vs l = rw zero-add
+pub over_at_zero : (vs l : List ℕ) → over_at 0 vs l ≡ over vs l
+unfolding over_at over
+over_at_zero vs l = rw zero-add
 
-pub length-over-at : (at : ℕ) (vs l : List ℕ) → at + length vs ≤ length l → length (overAt at vs l) ≡ length l
-unfolding overAt
-length-over-at at vs l h = simp (length-append, length-drop, length-take-le at l (omega arith)) (omega arith)
+pub length_over_at : (at : ℕ) (vs l : List ℕ) → at + length vs ≤ length l → length (over_at at vs l) ≡ length l
+unfolding over_at
+length_over_at at vs l h = simp (length-append, length-drop, length-take-le at l (omega arith)) (omega arith)
 
 -- the part from place a on was lent to a writer, which wrote v over the front of that part
 pub lent : (l : List ℕ) (a : ℕ) (v ys : List ℕ) → a + length v ≤ length l → ys ≡ over v (take (length l - a) (drop a l))
-    → take a l ++ (ys ++ drop (length l - a) (drop a l)) ≡ overAt a v l
-unfolding over overAt
+    → take a l ++ (ys ++ drop (length l - a) (drop a l)) ≡ over_at a v l
+unfolding over over_at
 lent l a v ys h e =
     let none : drop (length l - a) (drop a l) ≡ [] = drop_of_length-le (drop a l) {i = length l - a} (simp length-drop (omega arith)) in
-    rw (none, append-nil, e, rest-is, drop-drop)
+    rw (none, append-nil, e, rest_is, drop-drop)
 
 -- v written directly after u
-pub over-at-twice : (at : ℕ) (u v l : List ℕ) → at ≤ length l → overAt (at + length u) v (overAt at u l) ≡ overAt at (u ++ v) l
-unfolding overAt
-over-at-twice at u v l h =
+pub over_at_twice : (at : ℕ) (u v l : List ℕ) → at ≤ length l → over_at (at + length u) v (over_at at u l) ≡ over_at at (u ++ v) l
+unfolding over_at
+over_at_twice at u v l h =
     let p : List ℕ = take at l ++ u in
     let d : List ℕ = drop (at + length u) l in
     let n : length p ≡ at + length u = simp (length-append, length-take-le at l h) in
@@ -79,9 +79,9 @@ over-at-twice at u v l h =
     rw (← append_assoc (take at l) u d, front, back) (simp append_assoc)
 
 -- u written directly before v
-pub over-at-before : (at : ℕ) (u v l : List ℕ) → at + length u ≤ length l → overAt at u (overAt (at + length u) v l) ≡ overAt at (u ++ v) l
-unfolding overAt
-over-at-before at u v l h =
+pub over_at_before : (at : ℕ) (u v l : List ℕ) → at + length u ≤ length l → over_at at u (over_at (at + length u) v l) ≡ over_at at (u ++ v) l
+unfolding over_at
+over_at_before at u v l h =
     let b : ℕ = at + length u in
     let r : List ℕ = v ++ drop (b + length v) l in
     let n : length (take b l) ≡ b = length-take-le b l h in
@@ -91,28 +91,28 @@ over-at-before at u v l h =
     rw (front, back, size) (simp append_assoc)
 
 -- after u was written, the part after it is lent to a writer, which writes v over the front of that part
-pub next : (at b : ℕ) (xs l u v ys : List ℕ) → l ≡ overAt at u xs → b ≡ at + length u → b + length v ≤ length xs
-    → ys ≡ over v (take (length l - b) (drop b l)) → take b l ++ (ys ++ drop (length l - b) (drop b l)) ≡ overAt at (u ++ v) xs
+pub next : (at b : ℕ) (xs l u v ys : List ℕ) → l ≡ over_at at u xs → b ≡ at + length u → b + length v ≤ length xs
+    → ys ≡ over v (take (length l - b) (drop b l)) → take b l ++ (ys ++ drop (length l - b) (drop b l)) ≡ over_at at (u ++ v) xs
 next at b xs l u v ys e eb h ey =
-    let long : length l ≡ length xs = rw e (length-over-at at u xs (omega arith)) in
-    lent l b v ys (omega arith) ey ∙ rw (e, eb) (over-at-twice at u v xs (omega arith))
+    let long : length l ≡ length xs = rw e (length_over_at at u xs (omega arith)) in
+    lent l b v ys (omega arith) ey ∙ rw (e, eb) (over_at_twice at u v xs (omega arith))
 
 -- the same if u was written over the front
-pub next-over : (b : ℕ) (xs l u v ys : List ℕ) → l ≡ over u xs → b ≡ length u → b + length v ≤ length xs
+pub next_over : (b : ℕ) (xs l u v ys : List ℕ) → l ≡ over u xs → b ≡ length u → b + length v ≤ length xs
     → ys ≡ over v (take (length l - b) (drop b l)) → take b l ++ (ys ++ drop (length l - b) (drop b l)) ≡ over (u ++ v) xs
-next-over b xs l u v ys e eb h ey = next 0 b xs l u v ys (e ∙ sym (over-at-zero u xs)) (omega arith) h ey ∙ over-at-zero (u ++ v) xs
+next_over b xs l u v ys e eb h ey = next 0 b xs l u v ys (e ∙ sym (over_at_zero u xs)) (omega arith) h ey ∙ over_at_zero (u ++ v) xs
 
 -- after u was written over the front, a part further back is lent to a writer, which writes v over its front; then the
 -- part after u is lent to a writer of w, which ends where v starts
-pub between-over : (a b : ℕ) (xs l m u w v ys zs : List ℕ) → l ≡ over u xs → a ≡ length u → b ≡ a + length w → b + length v ≤ length xs
+pub between_over : (a b : ℕ) (xs l m u w v ys zs : List ℕ) → l ≡ over u xs → a ≡ length u → b ≡ a + length w → b + length v ≤ length xs
     → ys ≡ over v (take (length l - b) (drop b l)) → m ≡ take b l ++ (ys ++ drop (length l - b) (drop b l))
     → zs ≡ over w (take (length m - a) (drop a m)) → take a m ++ (zs ++ drop (length m - a) (drop a m)) ≡ over ((u ++ w) ++ v) xs
-between-over a b xs l m u w v ys zs e ea eb h ey em ez =
+between_over a b xs l m u w v ys zs e ea eb h ey em ez =
     let n : length l ≡ length xs = rw e (length_over u xs (omega arith)) in
-    let back : m ≡ overAt b v l = em ∙ lent l b v ys (omega arith) ey in
-    let k : length m ≡ length xs = rw back (length-over-at b v l (omega arith) ∙ n) in
-    let both : overAt a w m ≡ overAt a (w ++ v) l = rw (back, eb) (over-at-before a w v l (omega arith)) in
-    let first : l ≡ overAt 0 u xs = e ∙ sym (over-at-zero u xs) in
+    let back : m ≡ over_at b v l = em ∙ lent l b v ys (omega arith) ey in
+    let k : length m ≡ length xs = rw back (length_over_at b v l (omega arith) ∙ n) in
+    let both : over_at a w m ≡ over_at a (w ++ v) l = rw (back, eb) (over_at_before a w v l (omega arith)) in
+    let first : l ≡ over_at 0 u xs = e ∙ sym (over_at_zero u xs) in
     let place : a ≡ 0 + length u = omega arith in
-    let all : overAt a (w ++ v) l ≡ overAt 0 (u ++ (w ++ v)) xs = rw (first, place) (over-at-twice 0 u (w ++ v) xs (omega arith)) in
-    lent m a w zs (omega arith) ez ∙ both ∙ all ∙ over-at-zero _ xs ∙ ap (λ (z : List ℕ). over z xs) (sym (append_assoc u w v))
+    let all : over_at a (w ++ v) l ≡ over_at 0 (u ++ (w ++ v)) xs = rw (first, place) (over_at_twice 0 u (w ++ v) xs (omega arith)) in
+    lent m a w zs (omega arith) ez ∙ both ∙ all ∙ over_at_zero _ xs ∙ ap (λ (z : List ℕ). over z xs) (sym (append_assoc u w v))

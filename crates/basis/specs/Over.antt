@@ -7,5 +7,5 @@ unfoldable pub over : List ℕ → List ℕ → List ℕ
 over vs l = vs ++ drop (length vs) l
 
 -- l with vs written from a place on; elements before it and after it stay
-unfoldable pub overAt : ℕ → List ℕ → List ℕ → List ℕ
-overAt at vs l = take at l ++ (vs ++ drop (at + length vs) l)
+unfoldable pub over_at : ℕ → List ℕ → List ℕ → List ℕ
+over_at at vs l = take at l ++ (vs ++ drop (at + length vs) l)

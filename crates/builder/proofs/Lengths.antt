@@ -5,45 +5,45 @@ use mathlib.Core.List.{List}
 use native.Mathlib.Omega.{arith}
 use lib.ListN.{length, length-append}
 use Rattle.basis.specs.Number.{be}
-use Rattle.builder.specs.Cases.{Case, case1, case2S, case3S, case4S, case2E, case3E, case4E, lcBytes, le_bytes}
-use Rattle.builder.specs.Bytes.{leWritten, case_of, lcLen, leLen, commandOf, requiredLen}
+use Rattle.builder.specs.Cases.{Case, case1, case2_s, case3_s, case4_s, case2_e, case3_e, case4_e, lc_bytes, le_bytes}
+use Rattle.builder.specs.Bytes.{le_written, case_of, lc_len, le_len, command_of, required_len}
 use Rattle.builder.specs.Sizes.{field}
 use Rattle.builder.specs.declared.CommandBuilder.{CommandBuilder}
-use Rattle.builder.proofs.Cases.{laid-out-is}
+use Rattle.builder.proofs.Cases.{laid_out_is}
 
 -- Lc and Le have at most three bytes each, and five together
-pub case-few : (x : Case) → (lcBytes x ≤ 3) × (le_bytes x ≤ 3) × (lcBytes x + le_bytes x ≤ 5)
-case-few case1 = omega arith
-case-few case2S = omega arith
-case-few case3S = omega arith
-case-few case4S = omega arith
-case-few case2E = omega arith
-case-few case3E = omega arith
-case-few case4E = omega arith
+pub case_few : (x : Case) → (lc_bytes x ≤ 3) × (le_bytes x ≤ 3) × (lc_bytes x + le_bytes x ≤ 5)
+case_few case1 = omega arith
+case_few case2_s = omega arith
+case_few case3_s = omega arith
+case_few case4_s = omega arith
+case_few case2_e = omega arith
+case_few case3_e = omega arith
+case_few case4_e = omega arith
 
 module _ (b : CommandBuilder) (n : ℕ) where
-  pub lengths-few : (lcLen b n ≤ 3) × (leLen b n ≤ 3) × (lcLen b n + leLen b n ≤ 5)
-  unfolding lcLen leLen
-  lengths-few = case-few (case_of b n)
+  pub lengths_few : (lc_len b n ≤ 3) × (le_len b n ≤ 3) × (lc_len b n + le_len b n ≤ 5)
+  unfolding lc_len le_len
+  lengths_few = case_few (case_of b n)
 
 -- a length field of k bytes has k bytes
-pub length-field : (k n : ℕ) → k ≤ 3 → length (field k n) ≡ k
+pub length_field_lem : (k n : ℕ) → k ≤ 3 → length (field k n) ≡ k
 unfolding field be
-length-field zero n h = refl
-length-field (suc zero) n h = refl
-length-field (suc (suc zero)) n h = refl
-length-field (suc (suc (suc k))) n h = omega arith
+length_field_lem zero n h = refl
+length_field_lem (suc zero) n h = refl
+length_field_lem (suc (suc zero)) n h = refl
+length_field_lem (suc (suc (suc k))) n h = omega arith
 
 -- the bytes of a command are as many as its length says
-pub length-command : (b : CommandBuilder) (d : List ℕ) → length (commandOf b d) ≡ requiredLen b (length d)
-unfolding requiredLen
-length-command b d =
+pub length_command : (b : CommandBuilder) (d : List ℕ) → length (command_of b d) ≡ required_len b (length d)
+unfolding required_len
+length_command b d =
     let n = length d in
-    let few = lengths-few b n in
-    sym (ap length (laid-out-is b d))
-    ∙ simp (length-append, length-field (lcLen b n) n few.0, length-field (leLen b n) (leWritten b) few.1) (omega arith)
+    let few = lengths_few b n in
+    sym (ap length (laid_out_is b d))
+    ∙ simp (length-append, length_field_lem (lc_len b n) n few.0, length_field_lem (le_len b n) (le_written b) few.1) (omega arith)
 
 -- its length as a sum
-pub required-is : (b : CommandBuilder) (n : ℕ) → requiredLen b n ≡ 4 + lcLen b n + n + leLen b n
-unfolding requiredLen
-required-is b n = refl
+pub required_is : (b : CommandBuilder) (n : ℕ) → required_len b n ≡ 4 + lc_len b n + n + le_len b n
+unfolding required_len
+required_is b n = refl

@@ -3,7 +3,7 @@
 // Ported, with changes, from src/command.rs of the crate iso7816 0.2.2 (see NOTICE).
 ghost use Rattle.std.specs.Prelude.{◌≡◌};
 ghost use Rattle.basis.specs.Reply.{ok};
-ghost use Rattle.builder.specs.Builder.{inMode, asReply, new_is, force-extended-is};
+ghost use Rattle.builder.specs.Builder.{in_mode, as_reply, NewIs, ForceExtendedIs};
 ghost use Rattle.builder.specs.declared.ExtendedLen.TheVariants.{Forced};
 
 mod sizes;
@@ -48,7 +48,7 @@ pub enum Built {
 
 // The builder with its mode set to forced, and nothing else changed (rule 3.2).
 fn forced(builder: CommandBuilder) -> Built
-    ensures { asReply result ≡ ok (inMode builder Forced) }
+    ensures { as_reply result ≡ ok (in_mode builder Forced) }
 {
     let class = builder.class;
     let le = builder.le;
@@ -74,7 +74,7 @@ impl CommandBuilder {
         le: ExpectedLen,
         mode: ExtendedLen,
     ) -> Built
-        ensures { new_is class instruction p1 p2 «data».now le mode result }
+        ensures { NewIs class instruction p1 p2 «data».now le mode result }
     {
         match Class::from_byte(class) {
             FromByte::Refused(k) => Built::Refused(k),
@@ -96,7 +96,7 @@ impl CommandBuilder {
 
     // The builder with extended lengths always; 15 if it is short only (rule 3.2).
     pub fn force_extended(self) -> Built
-        ensures { force-extended-is self result }
+        ensures { ForceExtendedIs self result }
     {
         let mode = self.mode;
         match mode {

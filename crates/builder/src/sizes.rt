@@ -1,8 +1,8 @@
 // How many bytes Lc and Le take, and the command with them. Rules 3.3 to 3.7.
 // Ported, with changes, from src/command.rs of the crate iso7816 0.2.2 (see NOTICE).
 ghost use Rattle.std.specs.Prelude.{◌≡◌};
-ghost use Rattle.builder.specs.Bytes.{leNumber, loweredLen, lowered_is, required-len-is};
-ghost use Rattle.builder.specs.Sizes.{isForced, extended, lcSize, leSize, fields_of};
+ghost use Rattle.builder.specs.Bytes.{le_number, lowered_len, LoweredIs, RequiredLenIs};
+ghost use Rattle.builder.specs.Sizes.{is_forced, extended, lc_size, le_size, fields_of};
 ghost use Rattle.builder.specs.declared.ExtendedLen.TheVariants.{Unsupported};
 
 use crate::{CommandBuilder, ExpectedLen, ExtendedLen};
@@ -24,7 +24,7 @@ pub struct Fields {
 
 // The expected length as a number, Max as 65,536.
 fn le_number(le: ExpectedLen) -> usize
-    ensures { result ≡ leNumber le }
+    ensures { result ≡ le_number le }
 {
     match le {
         ExpectedLen::Ne(n) => n as usize,
@@ -34,7 +34,7 @@ fn le_number(le: ExpectedLen) -> usize
 
 // An expected length lowered to at most 256; Max too (rule 3.3).
 fn at_most_256(le: ExpectedLen) -> ExpectedLen
-    ensures { result ≡ loweredLen Unsupported le }
+    ensures { result ≡ lowered_len Unsupported le }
 {
     match le {
         ExpectedLen::Ne(n) => {
@@ -49,7 +49,7 @@ fn at_most_256(le: ExpectedLen) -> ExpectedLen
 
 // The expected length that is written: short only lowers it to at most 256, other modes leave it (rule 3.3).
 fn lowered_len(mode: ExtendedLen, le: ExpectedLen) -> ExpectedLen
-    ensures { result ≡ loweredLen mode le }
+    ensures { result ≡ lowered_len mode le }
 {
     match mode {
         ExtendedLen::Unsupported => at_most_256(le),
@@ -60,7 +60,7 @@ fn lowered_len(mode: ExtendedLen, le: ExpectedLen) -> ExpectedLen
 
 // Whether extended lengths are forced.
 fn is_forced(mode: ExtendedLen) -> bool
-    ensures { result ≡ isForced mode }
+    ensures { result ≡ is_forced mode }
 {
     match mode {
         ExtendedLen::Unsupported => false,
@@ -84,7 +84,7 @@ fn extended(mode: ExtendedLen, n: usize, e: usize) -> bool
 
 // How many bytes Lc takes: none without data, three if extended, else one (rules 3.4 and 3.5).
 fn lc_size(extended: bool, n: usize) -> usize
-    ensures { result ≡ lcSize extended n }
+    ensures { result ≡ lc_size extended n }
 {
     if n == 0 {
         return 0;
@@ -94,7 +94,7 @@ fn lc_size(extended: bool, n: usize) -> usize
 
 // How many bytes Le takes: none for 0; if extended, three without data and two after Lc; else one (rules 3.6 and 3.7).
 fn le_size(extended: bool, n: usize, e: usize) -> usize
-    ensures { result ≡ leSize extended n e }
+    ensures { result ≡ le_size extended n e }
 {
     if e == 0 {
         return 0;
@@ -126,7 +126,7 @@ pub(crate) fn sizes(builder: CommandBuilder, n: usize) -> Fields
 impl CommandBuilder {
     // The builder with the expected length that its command has: short only lowers it to at most 256 (rule 3.3).
     pub fn lowered(self) -> CommandBuilder
-        ensures { lowered_is self result }
+        ensures { LoweredIs self result }
     {
         let class = self.class;
         let mode = self.mode;
@@ -144,7 +144,7 @@ impl CommandBuilder {
 
     // The length of the command with these data: four plus the bytes of Lc, data and Le (rule 11.9); or 13.
     pub fn required_len(self, data: &[u8]) -> Length
-        ensures { required-len-is self «data».now result }
+        ensures { RequiredLenIs self «data».now result }
     {
         let n = data.len();
         if 65535 < n {

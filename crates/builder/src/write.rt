@@ -3,8 +3,8 @@
 // Ported, with changes, from src/command.rs of the crate iso7816 0.2.2 (see NOTICE).
 ghost use Rattle.std.specs.Prelude.{◌≡◌, ◌++◌, ◌+◌, ◌≤◌, length};
 ghost use Rattle.basis.specs.Over.{over};
-ghost use Rattle.builder.specs.Bytes.{header, serialize-into-is};
-ghost use Rattle.builder.specs.Sizes.{field, laidOut, Fits};
+ghost use Rattle.builder.specs.Bytes.{header, SerializeIntoIs};
+ghost use Rattle.builder.specs.Sizes.{field, laid_out, Fits};
 
 use crate::CommandBuilder;
 use crate::sizes::{Fields, Length, sizes};
@@ -59,7 +59,7 @@ fn put_data(lc: usize, data: &[u8], to: &mut [u8])
 // Le comes before the data, so that nothing of it is kept while they are copied (rule 12.15).
 fn put_command(builder: CommandBuilder, sizes: Fields, data: &[u8], to: &mut [u8])
     requires { Fits sizes (length «data».now) (length to.old) }
-    ensures { to.new ≡ over (laidOut builder sizes «data».now) to.old }
+    ensures { to.new ≡ over (laid_out builder sizes «data».now) to.old }
 {
     put_header(builder, to);
     let at_le = 4 + sizes.lc + data.len();
@@ -70,7 +70,7 @@ fn put_command(builder: CommandBuilder, sizes: Fields, data: &[u8], to: &mut [u8
 impl CommandBuilder {
     // Writes the command with these data into a buffer from a place. Bytes before it and after it stay (rule 3.9).
     pub fn serialize_into(self, data: &[u8], buffer: &mut [u8], at: usize) -> Length
-        ensures { serialize-into-is self «data».now buffer.old at result buffer.new }
+        ensures { SerializeIntoIs self «data».now buffer.old at result buffer.new }
     {
         let n = data.len();
         if 65535 < n {

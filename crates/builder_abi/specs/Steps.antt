@@ -2,26 +2,26 @@
 use Rattle.std.specs.Prelude.{ℕ, Bool, List, [], ◌∷◌, length}
 use Rattle.basis.specs.Reply.{Reply, ok, then}
 use Rattle.class.specs.declared.Reading.TheVariants.{Crate}
-use Rattle.command.specs.Command.{parse, dataIn}
-use Rattle.abi.specs.Answers.{flagOf}
-use Rattle.builder.specs.Builder.{unlessLong, forcedOf}
-use Rattle.builder.specs.Bytes.{requiredLen}
-use Rattle.builder_compare.specs.Compare.{equalTo}
+use Rattle.command.specs.Command.{parse, data_in}
+use Rattle.abi.specs.Answers.{flag_of}
+use Rattle.builder.specs.Builder.{unless_long, forced_of}
+use Rattle.builder.specs.Bytes.{required_len}
+use Rattle.builder_compare.specs.Compare.{equal_to}
 use Rattle.builder.specs.declared.CommandBuilder.{CommandBuilder}
-use Rattle.builder_abi.specs.Numbers.{withBoth}
+use Rattle.builder_abi.specs.Numbers.{with_both}
 
 -- the builder with extended lengths forced
 abbrev pub forcing : Reply CommandBuilder → Reply CommandBuilder
-forcing x = then x (λ b. forcedOf b b.mode)
+forcing x = then x (λ b. forced_of b b.mode)
 
 -- the length of its command with the data d, as a row of one number
 abbrev pub requiring : Reply CommandBuilder → List ℕ → Reply (List ℕ)
-requiring x d = then x (λ b. then (unlessLong (length d) (ok (requiredLen b (length d)))) (λ n. ok (n ∷ [])))
+requiring x d = then x (λ b. then (unless_long (length d) (ok (required_len b (length d)))) (λ n. ok (n ∷ [])))
 
 -- whether it equals the command s, with the data d
 abbrev pub comparing : Reply CommandBuilder → List ℕ → List ℕ → Reply Bool
-comparing x d s = withBoth x (parse Crate s) (λ b v. unlessLong (length d) (ok (equalTo b d v (dataIn s (parse Crate s)))))
+comparing x d s = with_both x (parse Crate s) (λ b v. unless_long (length d) (ok (equal_to b d v (data_in s (parse Crate s)))))
 
 -- the result of a comparison as a row of one number
-abbrev pub equalNumbers : Reply Bool → Reply (List ℕ)
-equalNumbers x = then x (λ b. ok (flagOf b ∷ []))
+abbrev pub equal_numbers : Reply Bool → Reply (List ℕ)
+equal_numbers x = then x (λ b. ok (flag_of b ∷ []))

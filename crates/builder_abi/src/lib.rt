@@ -2,11 +2,11 @@
 // comparison with a command, and its command written (rule 12.6). Each function replies 0, or the number of a refusal,
 // and writes one number into the slice `out` if it replies 0.
 ghost use Rattle.std.specs.Prelude.{◌≡◌};
-ghost use Rattle.builder.specs.Builder.{asReply};
-ghost use Rattle.builder_compare.specs.Compare.{asReply as equalAsReply};
+ghost use Rattle.builder.specs.Builder.{as_reply};
+ghost use Rattle.builder_compare.specs.Compare.{as_reply as equalAsReply};
 ghost use Rattle.abi.specs.Answers.{NumbersWritten};
-ghost use Rattle.builder_abi.specs.Numbers.{requiredLenReply, forceExtendedReply, smaller, builderEqReply};
-ghost use Rattle.builder_abi.specs.Steps.{forcing, requiring, comparing, equalNumbers};
+ghost use Rattle.builder_abi.specs.Numbers.{required_len_reply, force_extended_reply, smaller, builder_eq_reply};
+ghost use Rattle.builder_abi.specs.Steps.{forcing, requiring, comparing, equal_numbers};
 
 mod write;
 
@@ -20,7 +20,7 @@ pub use write::gorvisclen_serialize_into;
 
 // The same builder with extended lengths forced, or the refusal (rule 3.2).
 fn forced(built: Built) -> Built
-    ensures { asReply result ≡ forcing (asReply built) }
+    ensures { as_reply result ≡ forcing (as_reply built) }
 {
     match built {
         Built::Refused(k) => Built::Refused(k),
@@ -30,7 +30,7 @@ fn forced(built: Built) -> Built
 
 // Writes the length of its command with these data.
 fn write_required_len(built: Built, data: &[u8], out: &mut [u64]) -> u8
-    ensures { NumbersWritten 1 (requiring (asReply built) «data».now) out.old result out.new }
+    ensures { NumbersWritten 1 (requiring (as_reply built) «data».now) out.old result out.new }
 {
     match built {
         Built::Refused(k) => refusal_status(k, out.len(), 1),
@@ -56,7 +56,7 @@ pub extern "C" fn gorvisclen_required_len(
     data: &[u8],
     out: &mut [u64],
 ) -> u8
-    ensures { NumbersWritten 1 (requiredLenReply class instruction p1 p2 le mode «data».now) out.old result
+    ensures { NumbersWritten 1 (required_len_reply class instruction p1 p2 le mode «data».now) out.old result
         out.new }
 {
     let built = builder_by_numbers(class, instruction, p1, p2, le, mode, data);
@@ -75,7 +75,7 @@ pub extern "C" fn gorvisclen_force_extended(
     data: &[u8],
     out: &mut [u64],
 ) -> u8
-    ensures { NumbersWritten 1 (forceExtendedReply class instruction p1 p2 le mode «data».now) out.old result
+    ensures { NumbersWritten 1 (force_extended_reply class instruction p1 p2 le mode «data».now) out.old result
         out.new }
 {
     let built = builder_by_numbers(class, instruction, p1, p2, le, mode, data);
@@ -85,7 +85,7 @@ pub extern "C" fn gorvisclen_force_extended(
 
 // The number j of a refusal to read, or that of a refusal to build if it is smaller (rule 1.22).
 fn smaller(built: Built, j: u8) -> u8
-    ensures { result ≡ smaller (asReply built) j }
+    ensures { result ≡ smaller (as_reply built) j }
 {
     match built {
         Built::Builder(_) => j,
@@ -100,7 +100,7 @@ fn smaller(built: Built, j: u8) -> u8
 
 // A builder with these data compared with a command.
 fn compared(built: Built, data: &[u8], apdu: &[u8]) -> Comparison
-    ensures { equalAsReply result ≡ comparing (asReply built) «data».now apdu.now }
+    ensures { equalAsReply result ≡ comparing (as_reply built) «data».now apdu.now }
 {
     match CommandView::try_from(Reading::Crate, apdu) {
         Parsed::Refused(j) => Comparison::Refused(smaller(built, j)),
@@ -118,7 +118,7 @@ fn compared(built: Built, data: &[u8], apdu: &[u8]) -> Comparison
 
 // Writes 1 if they are equal, else 0.
 fn write_equal(answer: Comparison, out: &mut [u64]) -> u8
-    ensures { NumbersWritten 1 (equalNumbers (equalAsReply answer)) out.old result out.new }
+    ensures { NumbersWritten 1 (equal_numbers (equalAsReply answer)) out.old result out.new }
 {
     match answer {
         Comparison::Refused(k) => refusal_status(k, out.len(), 1),
@@ -146,7 +146,7 @@ pub extern "C" fn gorvisclen_builder_eq(
     apdu: &[u8],
     out: &mut [u64],
 ) -> u8
-    ensures { NumbersWritten 1 (builderEqReply class instruction p1 p2 le mode «data».now apdu.now) out.old
+    ensures { NumbersWritten 1 (builder_eq_reply class instruction p1 p2 le mode «data».now apdu.now) out.old
         result out.new }
 {
     let built = builder_by_numbers(class, instruction, p1, p2, le, mode, data);

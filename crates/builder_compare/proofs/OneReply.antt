@@ -7,20 +7,20 @@ use Rattle.basis.specs.Reply.{Reply, ok, refused}
 use Rattle.basis.proofs.Reply.{apart}
 use Rattle.command.specs.declared.CommandView.{CommandView}
 use Rattle.builder.specs.declared.CommandBuilder.{CommandBuilder}
-use Rattle.builder_compare.specs.Compare.{eq_is, asReply}
+use Rattle.builder_compare.specs.Compare.{EqIs, as_reply}
 use Rattle.builder_compare.specs.declared.Comparison.{Comparison}
 use Rattle.builder_compare.specs.declared.Comparison.TheVariants.{Equal, Different, Refused}
 
 -- the answer that has a given reply; an answer turned into its reply and back is unchanged
-abbrev from-reply : Reply Bool → Comparison
-from-reply (ok b) = cond b Equal Different
-from-reply (refused k) = Refused k
+abbrev from_reply : Reply Bool → Comparison
+from_reply (ok b) = cond b Equal Different
+from_reply (refused k) = Refused k
 
-unchanged : (x : Comparison) → from-reply (asReply x) ≡ x
+unchanged : (x : Comparison) → from_reply (as_reply x) ≡ x
 unchanged Equal = refl
 unchanged Different = refl
 unchanged (Refused k) = refl
 
 pub eq : (b : CommandBuilder) (d : List ℕ) (v : CommandView) (f : List ℕ) (x y : Comparison)
-    → eq_is b d v f x → eq_is b d v f y → x ≡ y
-eq b d v f x y g h = apart asReply from-reply unchanged x y (g ∙⁻¹ h)
+    → EqIs b d v f x → EqIs b d v f y → x ≡ y
+eq b d v f x y g h = apart as_reply from_reply unchanged x y (g ∙⁻¹ h)

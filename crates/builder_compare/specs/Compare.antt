@@ -3,7 +3,7 @@ use Rattle.std.specs.Prelude.{ℕ, ◌≡◌, Bool, true, false, cond, List, eqb
 use Rattle.basis.specs.Reply.{Reply, ok, refused}
 use Rattle.byte_slices.specs.Slices.{same}
 use Rattle.command.specs.declared.CommandView.{CommandView}
-use Rattle.builder.specs.Builder.{unlessLong}
+use Rattle.builder.specs.Builder.{unless_long}
 use Rattle.builder.specs.declared.ExpectedLen.{ExpectedLen}
 use Rattle.builder.specs.declared.ExpectedLen.TheVariants.{Ne, Max}
 use Rattle.builder.specs.declared.CommandBuilder.{CommandBuilder}
@@ -11,27 +11,27 @@ use Rattle.builder_compare.specs.declared.Comparison.{Comparison}
 use Rattle.builder_compare.specs.declared.Comparison.TheVariants.{Equal, Different, Refused}
 
 -- the expected length as it is compared: not lowered, and Max as 65,535 (rule 3.11)
-abbrev pub leCompared : ExpectedLen → ℕ
-leCompared (Ne n) = n
-leCompared Max = 65535
+abbrev pub le_compared : ExpectedLen → ℕ
+le_compared (Ne n) = n
+le_compared Max = 65535
 
 -- class, instruction, P1 and P2 agree
-unfoldable pub sameHeader : CommandBuilder → CommandView → Bool
-sameHeader b v =
+unfoldable pub same_header : CommandBuilder → CommandView → Bool
+same_header b v =
     cond (eqb b.class.cla v.class.cla)
     (cond (eqb b.instruction v.instruction)
     (cond (eqb b.p1 v.p1) (eqb b.p2 v.p2) false) false) false
 
 -- header, Le and data agree: d are the data of the builder, f those of the command (rule 3.10)
-unfoldable pub equalTo : CommandBuilder → List ℕ → CommandView → List ℕ → Bool
-equalTo b d v f = cond (sameHeader b v) (cond (eqb (leCompared b.le) v.le) (same d f) false) false
+unfoldable pub equal_to : CommandBuilder → List ℕ → CommandView → List ℕ → Bool
+equal_to b d v f = cond (same_header b v) (cond (eqb (le_compared b.le) v.le) (same d f) false) false
 
 -- an answer as a reply
-abbrev pub asReply : Comparison → Reply Bool
-asReply Equal = ok true
-asReply Different = ok false
-asReply (Refused k) = refused k
+abbrev pub as_reply : Comparison → Reply Bool
+as_reply Equal = ok true
+as_reply Different = ok false
+as_reply (Refused k) = refused k
 
 -- the promise of `eq`: 13 for data above 65,535 bytes, else whether they are equal
-abbrev pub eq_is : CommandBuilder → List ℕ → CommandView → List ℕ → Comparison → Type 0
-eq_is b d v f x = asReply x ≡ unlessLong (length d) (ok (equalTo b d v f))
+abbrev pub EqIs : CommandBuilder → List ℕ → CommandView → List ℕ → Comparison → Type 0
+EqIs b d v f x = as_reply x ≡ unless_long (length d) (ok (equal_to b d v f))

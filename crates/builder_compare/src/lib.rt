@@ -1,7 +1,7 @@
 // Comparing a builder with a command that was read. Rules 3.10 and 3.11.
 // Ported, with changes, from src/command.rs of the crate iso7816 0.2.2 (see NOTICE).
 ghost use Rattle.std.specs.Prelude.{◌≡◌};
-ghost use Rattle.builder_compare.specs.Compare.{leCompared, sameHeader, eq_is};
+ghost use Rattle.builder_compare.specs.Compare.{le_compared, same_header, EqIs};
 
 use builder::{CommandBuilder, ExpectedLen};
 use command::CommandView;
@@ -16,7 +16,7 @@ pub enum Comparison {
 
 // The expected length as it is compared: not lowered, and Max as 65,535 (rule 3.11).
 fn le_compared(le: ExpectedLen) -> usize
-    ensures { result ≡ leCompared le }
+    ensures { result ≡ le_compared le }
 {
     match le {
         ExpectedLen::Ne(n) => n as usize,
@@ -26,7 +26,7 @@ fn le_compared(le: ExpectedLen) -> usize
 
 // Whether class, instruction, P1 and P2 agree.
 fn same_header(builder: CommandBuilder, view: CommandView) -> bool
-    ensures { result ≡ sameHeader builder view }
+    ensures { result ≡ same_header builder view }
 {
     let class = builder.class;
     let read = view.class;
@@ -44,7 +44,7 @@ fn same_header(builder: CommandBuilder, view: CommandView) -> bool
 
 // Whether a builder and its data equal a command that was read and its data: header, Le and data agree (rule 3.10).
 pub fn eq(builder: CommandBuilder, data: &[u8], view: CommandView, other: &[u8]) -> Comparison
-    ensures { eq_is builder «data».now view other.now result }
+    ensures { EqIs builder «data».now view other.now result }
 {
     if 65535 < data.len() {
         return Comparison::Refused(13);

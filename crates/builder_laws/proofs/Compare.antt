@@ -9,33 +9,33 @@ use native.Mathlib.Omega.{arith}
 use borrow.Author.Tests.{eq-eqb, ne_eqb}
 use lib.Dec.{eqb}
 use lib.ListN.{length}
-use Rattle.command.proofs.Cases.{viewOfNumbers}
-use Rattle.builder.specs.Bytes.{leNumber, loweredLen, leWritten, lcLen}
-use Rattle.builder_compare.specs.Compare.{leCompared, sameHeader, equalTo}
+use Rattle.command.proofs.Cases.{view_of_numbers}
+use Rattle.builder.specs.Bytes.{le_number, lowered_len, le_written, lc_len}
+use Rattle.builder_compare.specs.Compare.{le_compared, same_header, equal_to}
 use Rattle.builder.specs.declared.ExpectedLen.TheVariants.{Ne, Max}
 use Rattle.builder.specs.declared.ExtendedLen.{ExtendedLen}
 use Rattle.builder.specs.declared.ExtendedLen.TheVariants.{Unsupported, Supported, Forced}
 use Rattle.builder.specs.declared.CommandBuilder.{CommandBuilder}
 use Rattle.byte_slices.proofs.Slices.{same_self}
-use Rattle.builder_laws.specs.Read.{extendedFor, viewFor}
+use Rattle.builder_laws.specs.Read.{extended_for, view_for}
 use Rattle.builder_laws.proofs.LeWritten.{le_read}
 
 -- Max is never written as 65,535
-max-lowered : (m : ExtendedLen) → eqb 65535 (leNumber (loweredLen m Max)) ≡ false
-max-lowered Unsupported = refl
-max-lowered Supported = refl
-max-lowered Forced = refl
+max_lowered : (m : ExtendedLen) → eqb 65535 (le_number (lowered_len m Max)) ≡ false
+max_lowered Unsupported = refl
+max_lowered Supported = refl
+max_lowered Forced = refl
 
-cond-true-false : (r : Bool) → cond r true false ≡ r
-cond-true-false true = refl
-cond-true-false false = refl
+cond_true_false : (r : Bool) → cond r true false ≡ r
+cond_true_false true = refl
+cond_true_false false = refl
 
 module _ (b : CommandBuilder) (d : List ℕ) where
   -- a command of the same header and data, with an Le of e, is equal exactly if Le is
-  equal-by-le : (at n e : ℕ) (x r : Bool) → eqb (leCompared b.le) e ≡ r
-      → equalTo b d (viewOfNumbers b.class.cla b.instruction b.p1 b.p2 at n e x) d ≡ r
-  unfolding equalTo sameHeader
-  equal-by-le at n e x r h =
+  equal_by_le : (at n e : ℕ) (x r : Bool) → eqb (le_compared b.le) e ≡ r
+      → equal_to b d (view_of_numbers b.class.cla b.instruction b.p1 b.p2 at n e x) d ≡ r
+  unfolding equal_to same_header
+  equal_by_le at n e x r h =
       rw (
         eq-eqb b.class.cla b.class.cla refl,
         eq-eqb b.instruction b.instruction refl,
@@ -43,24 +43,24 @@ module _ (b : CommandBuilder) (d : List ℕ) where
         eq-eqb b.p2 b.p2 refl,
         same_self d,
         h,
-      ) (cond-true-false r)
+      ) (cond_true_false r)
 
-  own-equal-by-le : (r : Bool) → eqb (leCompared b.le) (leWritten b) ≡ r → equalTo b d (viewFor b (length d)) d ≡ r
-  own-equal-by-le r h = equal-by-le (4 + lcLen b (length d)) (length d) (leWritten b) (extendedFor b (length d)) r h
+  own_equal_by_le : (r : Bool) → eqb (le_compared b.le) (le_written b) ≡ r → equal_to b d (view_for b (length d)) d ≡ r
+  own_equal_by_le r h = equal_by_le (4 + lc_len b (length d)) (length d) (le_written b) (extended_for b (length d)) r h
 
   -- Max is equal to 65,535 (rule 3.11)
-  pub max-equal : (at n : ℕ) (x : Bool) → b.le ≡ Max
-      → equalTo b d (viewOfNumbers b.class.cla b.instruction b.p1 b.p2 at n 65535 x) d ≡ true
-  max-equal at n x e = equal-by-le at n 65535 x true (rw e)
+  pub max_equal : (at n : ℕ) (x : Bool) → b.le ≡ Max
+      → equal_to b d (view_of_numbers b.class.cla b.instruction b.p1 b.p2 at n 65535 x) d ≡ true
+  max_equal at n x e = equal_by_le at n 65535 x true (rw e)
 
   -- its own command as it is read back is equal if Le is not lowered
-  pub own-equal : (n : ℕ) → b.le ≡ Ne n → (b.mode ≡ Unsupported → n ≤ 256) → equalTo b d (viewFor b (length d)) d ≡ true
-  own-equal n e h = own-equal-by-le true (rw ((le_read b).number n e h, e) (eq-eqb n n refl))
+  pub own_equal : (n : ℕ) → b.le ≡ Ne n → (b.mode ≡ Unsupported → n ≤ 256) → equal_to b d (view_for b (length d)) d ≡ true
+  own_equal n e h = own_equal_by_le true (rw ((le_read b).number n e h, e) (eq-eqb n n refl))
 
   -- it is not equal if Le is lowered, nor for Max in any mode
-  pub lowered-differs : (n : ℕ) → b.le ≡ Ne n → b.mode ≡ Unsupported → 256 < n → equalTo b d (viewFor b (length d)) d ≡ false
-  lowered-differs n e m h = own-equal-by-le false (rw ((le_read b).number-lowered n e m h, e) (ne_eqb n 256 (omega arith)))
+  pub lowered_differs : (n : ℕ) → b.le ≡ Ne n → b.mode ≡ Unsupported → 256 < n → equal_to b d (view_for b (length d)) d ≡ false
+  lowered_differs n e m h = own_equal_by_le false (rw ((le_read b).number_lowered n e m h, e) (ne_eqb n 256 (omega arith)))
 
-  pub max-differs : b.le ≡ Max → equalTo b d (viewFor b (length d)) d ≡ false
-  unfolding leWritten
-  max-differs e = own-equal-by-le false (rw e (max-lowered b.mode))
+  pub max_differs : b.le ≡ Max → equal_to b d (view_for b (length d)) d ≡ false
+  unfolding le_written
+  max_differs e = own_equal_by_le false (rw e (max_lowered b.mode))

@@ -1,4 +1,4 @@
--- What a builder writes is read back, in both readings, as `viewFor` says and with its data (rule 11.3).
+-- What a builder writes is read back, in both readings, as `view_for` says and with its data (rule 11.3).
 use Prim.Native.Nat.{ℕ, zero, suc, ◌+◌, ◌*◌, ◌/◌, ◌%◌, ◌≤◌}
 use mathlib.Core.Path.{◌≡◌, refl, sym, ap, subst, ◌∙◌}
 use mathlib.Core.Bool.{Bool}
@@ -8,77 +8,77 @@ use lib.ListN.{length}
 use Rattle.basis.specs.Reply.{refused}
 use Rattle.basis.specs.Number.{be}
 use Rattle.class.specs.declared.Reading.{Reading}
-use Rattle.command.specs.Body.{orMost}
+use Rattle.command.specs.Body.{or_most}
 use Rattle.command.specs.Command.{parse}
-use Rattle.command.proofs.Cases.{ReadAs, viewOfNumbers, class-ff, no_fields}
-use Rattle.command.proofs.Cases.{short-le, short-data, short-data-le, extended-le, extended-data, extended-data-le}
-use Rattle.builder.specs.Cases.{Case, case1, case2S, case3S, case4S, case2E, case3E, case4E, caseBytes, lcBytes}
-use Rattle.builder.specs.Bytes.{leWritten, case_of, lcLen, commandOf}
+use Rattle.command.proofs.Cases.{ReadAs, view_of_numbers, class_ff, no_fields}
+use Rattle.command.proofs.Cases.{short_le, short_data, short_data_le, extended_le, extended_data, extended_data_le}
+use Rattle.builder.specs.Cases.{Case, case1, case2_s, case3_s, case4_s, case2_e, case3_e, case4_e, case_bytes, lc_bytes}
+use Rattle.builder.specs.Bytes.{le_written, case_of, lc_len, command_of}
 use Rattle.builder.specs.declared.CommandBuilder.{CommandBuilder}
-use Rattle.builder_laws.specs.Read.{Expected, isExtended, extendedFor, viewFor}
-use Rattle.builder_laws.proofs.Cases.{Used, case-used}
-use Rattle.builder_laws.proofs.LeWritten.{written-le}
+use Rattle.builder_laws.specs.Read.{Expected, is_extended, extended_for, view_for}
+use Rattle.builder_laws.proofs.Cases.{Used, case_used}
+use Rattle.builder_laws.proofs.LeWritten.{written_le}
 
 -- a number that is read back: zero means the most
-zero-means-most : (most x e : ℕ) → (x ≡ 0 → most ≡ e) → (1 ≤ x → x ≡ e) → orMost most x ≡ e
-zero-means-most most zero e h g = h refl
-zero-means-most most (suc x) e h g = g (omega arith)
+zero_means_most : (most x e : ℕ) → (x ≡ 0 → most ≡ e) → (1 ≤ x → x ≡ e) → or_most most x ≡ e
+zero_means_most most zero e h g = h refl
+zero_means_most most (suc x) e h g = g (omega arith)
 
 -- an expected length written in one byte, and in two, is read back
-le-in-one-byte : (e : ℕ) → 1 ≤ e → e ≤ 256 → orMost 256 (e % 256) ≡ e
-le-in-one-byte e h g = zero-means-most 256 (e % 256) e (λ z. omega arith) (λ z. omega arith)
+le_in_one_byte : (e : ℕ) → 1 ≤ e → e ≤ 256 → or_most 256 (e % 256) ≡ e
+le_in_one_byte e h g = zero_means_most 256 (e % 256) e (λ z. omega arith) (λ z. omega arith)
 
-le-in-two-bytes : (e : ℕ) → 1 ≤ e → e ≤ 65536 → orMost 65536 (e / 256 % 256 * 256 + e % 256) ≡ e
-le-in-two-bytes e h g = zero-means-most 65536 (e / 256 % 256 * 256 + e % 256) e (λ z. omega arith) (λ z. omega arith)
+le_in_two_bytes : (e : ℕ) → 1 ≤ e → e ≤ 65536 → or_most 65536 (e / 256 % 256 * 256 + e % 256) ≡ e
+le_in_two_bytes e h g = zero_means_most 65536 (e / 256 % 256 * 256 + e % 256) e (λ z. omega arith) (λ z. omega arith)
 
 -- a command that is read with an Le of e is read with an equal Le
-with-le : {r : Reading} {s d : List ℕ} {c i p q at n e e' : ℕ} {x : Bool} → e ≡ e'
-    → ReadAs r s (viewOfNumbers c i p q at n e x) d → ReadAs r s (viewOfNumbers c i p q at n e' x) d
-with-le {r} {s} {d} {c} {i} {p} {q} {at} {n} {e} {e'} {x} g h = subst (λ (m : ℕ). ReadAs r s (viewOfNumbers c i p q at n m x) d) g h
+with_le : {r : Reading} {s d : List ℕ} {c i p q at n e e' : ℕ} {x : Bool} → e ≡ e'
+    → ReadAs r s (view_of_numbers c i p q at n e x) d → ReadAs r s (view_of_numbers c i p q at n e' x) d
+with_le {r} {s} {d} {c} {i} {p} {q} {at} {n} {e} {e'} {x} g h = subst (λ (m : ℕ). ReadAs r s (view_of_numbers c i p q at n m x) d) g h
 
 -- the bytes of each case are read back (rule 3.8)
 module _ (r : Reading) (c i p q : ℕ) (k : c ≡ 0xFF → ⊥) where
-  case-read : (x : Case) (d : List ℕ) (e : ℕ) → Used x (length d) e → length d ≤ 65535 → e ≤ 65536
-      → ReadAs r (caseBytes x (c ∷ i ∷ p ∷ q ∷ []) d e) (viewOfNumbers c i p q (4 + lcBytes x) (length d) e (isExtended x)) d
+  case_read : (x : Case) (d : List ℕ) (e : ℕ) → Used x (length d) e → length d ≤ 65535 → e ≤ 65536
+      → ReadAs r (case_bytes x (c ∷ i ∷ p ∷ q ∷ []) d e) (view_of_numbers c i p q (4 + lc_bytes x) (length d) e (is_extended x)) d
   unfolding be
-  case-read case1 [] e u o l = with-le (sym u.1) (no_fields r c i p q k)
-  case-read case1 (y ∷ d) e u o l = absurd (omega (arith, u.0))
-  case-read case2S [] e u o l = with-le (le-in-one-byte e u.1 u.2) (short-le r c i p q k (e % 256))
-  case-read case2S (y ∷ d) e u o l = absurd (omega (arith, u.0))
-  case-read case3S d e u o l = with-le (sym u.2) (short-data r c i p q k (length d % 256) d (omega (arith, u.1)) (omega (arith, u.0, u.1)))
-  case-read case4S d e u o l =
-      with-le (le-in-one-byte e u.2 u.3) (short-data-le r c i p q k (length d % 256) d (e % 256) (omega (arith, u.1)) (omega (arith, u.0, u.1)))
-  case-read case2E [] e u o l = with-le (le-in-two-bytes e u.1 l) (extended-le r c i p q k (e / 256 % 256) (e % 256))
-  case-read case2E (y ∷ d) e u o l = absurd (omega (arith, u.0))
-  case-read case3E d e u o l =
-      with-le (sym u.1) (extended-data r c i p q k (length d / 256 % 256) (length d % 256) d (omega arith) u.0)
-  case-read case4E d e u o l =
-      with-le (le-in-two-bytes e u.1 l)
-      (extended-data-le r c i p q k (length d / 256 % 256) (length d % 256) d (omega arith) u.0 (e / 256 % 256) (e % 256))
+  case_read case1 [] e u o l = with_le (sym u.1) (no_fields r c i p q k)
+  case_read case1 (y ∷ d) e u o l = absurd (omega (arith, u.0))
+  case_read case2_s [] e u o l = with_le (le_in_one_byte e u.1 u.2) (short_le r c i p q k (e % 256))
+  case_read case2_s (y ∷ d) e u o l = absurd (omega (arith, u.0))
+  case_read case3_s d e u o l = with_le (sym u.2) (short_data r c i p q k (length d % 256) d (omega (arith, u.1)) (omega (arith, u.0, u.1)))
+  case_read case4_s d e u o l =
+      with_le (le_in_one_byte e u.2 u.3) (short_data_le r c i p q k (length d % 256) d (e % 256) (omega (arith, u.1)) (omega (arith, u.0, u.1)))
+  case_read case2_e [] e u o l = with_le (le_in_two_bytes e u.1 l) (extended_le r c i p q k (e / 256 % 256) (e % 256))
+  case_read case2_e (y ∷ d) e u o l = absurd (omega (arith, u.0))
+  case_read case3_e d e u o l =
+      with_le (sym u.1) (extended_data r c i p q k (length d / 256 % 256) (length d % 256) d (omega arith) u.0)
+  case_read case4_e d e u o l =
+      with_le (le_in_two_bytes e u.1 l)
+      (extended_data_le r c i p q k (length d / 256 % 256) (length d % 256) d (omega arith) u.0 (e / 256 % 256) (e % 256))
 
 -- a header of class 0xFF is refused in each case
-case-ff : (r : Reading) (i p q : ℕ) (x : Case) (d : List ℕ) (e : ℕ) → parse r (caseBytes x (0xFF ∷ i ∷ p ∷ q ∷ []) d e) ≡ refused 3
-case-ff r i p q case1 d e = class-ff r i p q _
-case-ff r i p q case2S d e = class-ff r i p q _
-case-ff r i p q case3S d e = class-ff r i p q _
-case-ff r i p q case4S d e = class-ff r i p q _
-case-ff r i p q case2E d e = class-ff r i p q _
-case-ff r i p q case3E d e = class-ff r i p q _
-case-ff r i p q case4E d e = class-ff r i p q _
+case_ff : (r : Reading) (i p q : ℕ) (x : Case) (d : List ℕ) (e : ℕ) → parse r (case_bytes x (0xFF ∷ i ∷ p ∷ q ∷ []) d e) ≡ refused 3
+case_ff r i p q case1 d e = class_ff r i p q _
+case_ff r i p q case2_s d e = class_ff r i p q _
+case_ff r i p q case3_s d e = class_ff r i p q _
+case_ff r i p q case4_s d e = class_ff r i p q _
+case_ff r i p q case2_e d e = class_ff r i p q _
+case_ff r i p q case3_e d e = class_ff r i p q _
+case_ff r i p q case4_e d e = class_ff r i p q _
 
 module _ (r : Reading) (b : CommandBuilder) (d : List ℕ) where
   -- every class byte but 0xFF, every mode, every expected length (Max is 65,536), and data of at most 65,535 bytes
-  pub built-read : (b.class.cla ≡ 0xFF → ⊥) → Expected b.le → length d ≤ 65535
-      → ReadAs r (commandOf b d) (viewFor b (length d)) d
-  unfolding commandOf case_of lcLen extendedFor
-  built-read k h o =
-      case-read r b.class.cla b.instruction b.p1 b.p2 k (case_of b (length d)) d (leWritten b)
-      (case-used b.mode (length d) (leWritten b)) o (written-le b h)
+  pub built_read : (b.class.cla ≡ 0xFF → ⊥) → Expected b.le → length d ≤ 65535
+      → ReadAs r (command_of b d) (view_for b (length d)) d
+  unfolding command_of case_of lc_len extended_for
+  built_read k h o =
+      case_read r b.class.cla b.instruction b.p1 b.p2 k (case_of b (length d)) d (le_written b)
+      (case_used b.mode (length d) (le_written b)) o (written_le b h)
 
   -- class 0xFF is refused
-  pub built-ff : b.class.cla ≡ 0xFF → parse r (commandOf b d) ≡ refused 3
-  unfolding commandOf
-  built-ff h =
+  pub built_ff : b.class.cla ≡ 0xFF → parse r (command_of b d) ≡ refused 3
+  unfolding command_of
+  built_ff h =
       let x = case_of b (length d) in
-      ap (λ (c : ℕ). parse r (caseBytes x (c ∷ b.instruction ∷ b.p1 ∷ b.p2 ∷ []) d (leWritten b))) h
-      ∙ case-ff r b.instruction b.p1 b.p2 x d (leWritten b)
+      ap (λ (c : ℕ). parse r (case_bytes x (c ∷ b.instruction ∷ b.p1 ∷ b.p2 ∷ []) d (le_written b))) h
+      ∙ case_ff r b.instruction b.p1 b.p2 x d (le_written b)

@@ -1,6 +1,6 @@
 -- Laws of lists that hold the same bytes, and one reply for each operation.
 --
---   same-equal, same-self (Slices): `same` is equality: each guards the other
+--   same_equal, same-self (Slices): `same` is equality: each guards the other
 --   other-length, same-next (Slices): what the callers of `same` and its loop cite
 --   same, part (OneReply): two replies that a promise allows are equal
 pub mod Slices

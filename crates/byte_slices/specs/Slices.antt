@@ -10,9 +10,9 @@ same (x ∷ s) [] = false
 same (x ∷ s) (y ∷ t) = cond (eqb x y) (same s t) false
 
 -- the promise of `same`
-abbrev pub same-is : List ℕ → List ℕ → Bool → Type 0
-same-is s t r = r ≡ same s t
+abbrev pub SameIs : List ℕ → List ℕ → Bool → Type 0
+SameIs s t r = r ≡ same s t
 
 -- the promise of `part`: n bytes from a place on, but none past the end
-abbrev pub part-is : List ℕ → ℕ → ℕ → List ℕ → Type 0
-part-is s at n x = x ≡ take n (drop at s)
+abbrev pub PartIs : List ℕ → ℕ → ℕ → List ℕ → Type 0
+PartIs s at n x = x ≡ take n (drop at s)

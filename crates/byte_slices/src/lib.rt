@@ -1,6 +1,6 @@
 // Slices of bytes: whether two hold the same bytes, and the part of a slice from a place with a length (rule 12.8).
 ghost use Rattle.std.specs.Prelude.{◌≡◌, cond, false, eqb};
-ghost use Rattle.byte_slices.specs.Slices.{same-is, part-is};
+ghost use Rattle.byte_slices.specs.Slices.{SameIs, PartIs};
 
 // Whether two slices are still the same after one more byte: `ok` says whether they were so far.
 fn still_same(ok: bool, x: u8, y: u8) -> bool
@@ -15,7 +15,7 @@ fn still_same(ok: bool, x: u8, y: u8) -> bool
 // Whether two slices hold the same bytes. It compares all of them even after a difference, so that the compiler can
 // compare many bytes at once.
 pub fn same(a: &[u8], b: &[u8]) -> bool
-    ensures { same-is a.now b.now result }
+    ensures { SameIs a.now b.now result }
 {
     if a.len() != b.len() {
         return false;
@@ -32,7 +32,7 @@ pub fn same(a: &[u8], b: &[u8]) -> bool
 // The part of a slice that starts at `at` and has `len` bytes, or as many of them as there are. There is no refusal:
 // past the end there are no bytes.
 pub fn part<'a>(bytes: &'a [u8], at: usize, len: usize) -> &'a [u8]
-    ensures { part-is bytes.now at len result.now }
+    ensures { PartIs bytes.now at len result.now }
 {
     let n = bytes.len();
     if n < at {

@@ -4,7 +4,7 @@ use Rattle.std.specs.Prelude.{ℕ, ◌+◌, ◌-◌, ◌≡◌, Bool, cond, ◌&
 use Rattle.basis.specs.Reply.{Reply, ok, refused, then}
 use Rattle.basis.specs.Number.{be, number}
 use Rattle.byte_slices.specs.Slices.{same}
-use Rattle.calibration.specs.Date.{dateOf, dateBytes}
+use Rattle.calibration.specs.Date.{date_of, date_bytes}
 use Rattle.calibration.specs.declared.date.Date.{Date}
 use Rattle.calibration.specs.declared.profile.Profile.{Profile}
 use Rattle.calibration.specs.declared.profile.ReadProfile.{ReadProfile}
@@ -28,56 +28,56 @@ unfoldable pub template : List ℕ → List ℕ → List ℕ → List ℕ
 template serial due capacity = object 0xE1 (object 0xC1 serial ++ (object 0xC2 due ++ object 0xC3 capacity))
 
 -- whether a serial may have n bytes (rule 19.2)
-unfoldable pub isSerialLen : ℕ → Bool
-isSerialLen n = leb 1 n && leb n 16
+unfoldable pub is_serial_len : ℕ → Bool
+is_serial_len n = leb 1 n && leb n 16
 
 -- the record of some fields: the date in packed decimal, the capacity in four bytes (rules 19.2 and 19.3)
-unfoldable pub recordOf : Fields → List ℕ
-recordOf f = template f.serial (dateBytes f.due) (be 4 f.capacity)
+unfoldable pub record_of : Fields → List ℕ
+record_of f = template f.serial (date_bytes f.due) (be 4 f.capacity)
 
 -- the places of the fields in a record of this form: all its bytes but 16 are the serial. A lookup of E1, C2 finds the
 -- due date at its place, too (rule 19.11)
-abbrev pub serialLen : List ℕ → ℕ
-serialLen s = length s - 16
+abbrev pub serial_len : List ℕ → ℕ
+serial_len s = length s - 16
 
-abbrev pub serialOf : List ℕ → List ℕ
-serialOf s = take (serialLen s) (drop 4 s)
+abbrev pub serial_of : List ℕ → List ℕ
+serial_of s = take (serial_len s) (drop 4 s)
 
-abbrev pub duePlace : List ℕ → ℕ
-duePlace s = serialLen s + 6
+abbrev pub due_place : List ℕ → ℕ
+due_place s = serial_len s + 6
 
-abbrev pub dueOf : List ℕ → List ℕ
-dueOf s = take 4 (drop (duePlace s) s)
+abbrev pub due_of : List ℕ → List ℕ
+due_of s = take 4 (drop (due_place s) s)
 
-abbrev pub capacityOf : List ℕ → List ℕ
-capacityOf s = take 4 (drop (duePlace s + 6) s)
+abbrev pub capacity_of : List ℕ → List ℕ
+capacity_of s = take 4 (drop (due_place s + 6) s)
 
 -- whether bytes are of this form: they are the template of what stands at these places (rule 19.1)
-unfoldable pub isProfile : List ℕ → Bool
-isProfile s = isSerialLen (serialLen s) && same s (template (serialOf s) (dueOf s) (capacityOf s))
+unfoldable pub is_profile : List ℕ → Bool
+is_profile s = is_serial_len (serial_len s) && same s (template (serial_of s) (due_of s) (capacity_of s))
 
 -- the fields of a record: 26 if it is not of this form, then 27 if there is no such date (rules 1.32, 1.33 and 19.5)
 unfoldable pub fields_of : List ℕ → Reply Fields
 fields_of s =
-    cond (isProfile s) (then (dateOf (dueOf s)) (λ due. ok (fields (serialOf s) due (number (capacityOf s))))) (refused 26)
+    cond (is_profile s) (then (date_of (due_of s)) (λ due. ok (fields (serial_of s) due (number (capacity_of s))))) (refused 26)
 
 -- the fields as the code has them: of the serial, how many bytes it has
-abbrev pub profileOf : Fields → Profile
-profileOf f = record { serial = length f.serial; due = f.due; capacity = f.capacity }
+abbrev pub profile_of : Fields → Profile
+profile_of f = record { serial = length f.serial; due = f.due; capacity = f.capacity }
 
 -- an answer of the code as a reply
-abbrev pub asReply : ReadProfile → Reply Profile
-asReply (read.Profile p) = ok p
-asReply (read.Refused k) = refused k
+abbrev pub as_reply : ReadProfile → Reply Profile
+as_reply (read.Profile p) = ok p
+as_reply (read.Refused k) = refused k
 
 -- the promise of `read_profile`
-abbrev pub read-profile-is : List ℕ → ReadProfile → Type 0
-read-profile-is s x = asReply x ≡ then (fields_of s) (λ f. ok (profileOf f))
+abbrev pub ReadProfileIs : List ℕ → ReadProfile → Type 0
+ReadProfileIs s x = as_reply x ≡ then (fields_of s) (λ f. ok (profile_of f))
 
 -- the promise of `serial`: no bytes if the record is refused (rule 19.2)
-abbrev pub serialIn : Reply Fields → List ℕ
-serialIn (ok f) = f.serial
-serialIn (refused k) = []
+abbrev pub serial_in : Reply Fields → List ℕ
+serial_in (ok f) = f.serial
+serial_in (refused k) = []
 
-abbrev pub serial-is : List ℕ → List ℕ → Type 0
-serial-is s x = x ≡ serialIn (fields_of s)
+abbrev pub SerialIs : List ℕ → List ℕ → Type 0
+SerialIs s x = x ≡ serial_in (fields_of s)

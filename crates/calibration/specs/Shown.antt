@@ -1,7 +1,7 @@
 -- The due date shown: the card's or, if its record is refused, the desk's (rules 19.7 and 19.8).
 use Rattle.std.specs.Prelude.{ℕ, ◌≡◌, List, [], take, drop}
 use Rattle.basis.specs.Reply.{Reply, ok, refused, then}
-use Rattle.calibration.specs.Profile.{duePlace, fields_of}
+use Rattle.calibration.specs.Profile.{due_place, fields_of}
 use Rattle.calibration.specs.declared.shown.DueShownFrom.{DueShownFrom}
 use Rattle.calibration.specs.declared.shown.DueShownFrom.TheVariants as from
 
@@ -16,24 +16,24 @@ or_else (ok a) y = ok a
 or_else (refused k) y = y
 
 -- whose due date is shown: with both records refused, the desk's refusal (rule 19.8)
-unfoldable pub whoseOf : List ℕ → List ℕ → Reply Whose
-whoseOf c d = or_else (then (fields_of c) (λ f. ok (card (duePlace c)))) (then (fields_of d) (λ f. ok (desk (duePlace d))))
+unfoldable pub whose_of : List ℕ → List ℕ → Reply Whose
+whose_of c d = or_else (then (fields_of c) (λ f. ok (card (due_place c)))) (then (fields_of d) (λ f. ok (desk (due_place d))))
 
 -- its four bytes, in the card's record c or in the desk's d; no bytes if both are refused (rule 19.7)
-abbrev pub shownIn : List ℕ → List ℕ → Reply Whose → List ℕ
-shownIn c d (ok (card at)) = take 4 (drop at c)
-shownIn c d (ok (desk at)) = take 4 (drop at d)
-shownIn c d (refused k) = []
+abbrev pub shown_in : List ℕ → List ℕ → Reply Whose → List ℕ
+shown_in c d (ok (card at)) = take 4 (drop at c)
+shown_in c d (ok (desk at)) = take 4 (drop at d)
+shown_in c d (refused k) = []
 
 -- an answer of the code as a reply
-abbrev pub asReply : DueShownFrom → Reply Whose
-asReply (from.Card at) = ok (card at)
-asReply (from.Desk at) = ok (desk at)
-asReply (from.Refused k) = refused k
+abbrev pub as_reply : DueShownFrom → Reply Whose
+as_reply (from.Card at) = ok (card at)
+as_reply (from.Desk at) = ok (desk at)
+as_reply (from.Refused k) = refused k
 
 -- the promises of `due_shown_from` and `due_shown`
-abbrev pub due-shown-from-is : List ℕ → List ℕ → DueShownFrom → Type 0
-due-shown-from-is c d x = asReply x ≡ whoseOf c d
+abbrev pub DueShownFromIs : List ℕ → List ℕ → DueShownFrom → Type 0
+DueShownFromIs c d x = as_reply x ≡ whose_of c d
 
-abbrev pub due-shown-is : List ℕ → List ℕ → List ℕ → Type 0
-due-shown-is c d x = x ≡ shownIn c d (whoseOf c d)
+abbrev pub DueShownIs : List ℕ → List ℕ → List ℕ → Type 0
+DueShownIs c d x = x ≡ shown_in c d (whose_of c d)

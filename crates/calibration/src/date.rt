@@ -1,7 +1,7 @@
 // Dates: real ones of the Gregorian calendar in the years 2000 to 2099 (rule 19.4), as bytes of packed decimal (rule
 // 19.3), and which of two is earlier (rule 19.6).
 ghost use Rattle.std.specs.Prelude.{◌≡◌, true, ◌≤◌, ◌<◌, length};
-ghost use Rattle.calibration.specs.Date.{daysIn, isReal, isEarlier, isDecimal, twoDigits, arePacked, dateIn, dateOf, dateReply, packed, dateBytes};
+ghost use Rattle.calibration.specs.Date.{days_in, is_real, is_earlier, is_decimal, two_digits, are_packed, date_in, date_of, date_reply, packed, date_bytes};
 
 // Three numbers: a year, a month and a day. Where a date is taken, it is tested whether there is such a date.
 #[derive(Drop)]
@@ -22,7 +22,7 @@ pub enum ReadDate {
 // 12 have no days.
 fn days_in(year: u32, month: u32) -> u32
     requires { (2000 ≤ year) × (year ≤ 2099) }
-    ensures { result ≡ daysIn year month }
+    ensures { result ≡ days_in year month }
 {
     match month {
         2 => {
@@ -39,7 +39,7 @@ fn days_in(year: u32, month: u32) -> u32
 
 // Whether there is such a date (rule 19.4).
 pub(crate) fn is_real(date: Date) -> bool
-    ensures { result ≡ isReal date }
+    ensures { result ≡ is_real date }
 {
     if date.year < 2000 {
         return false;
@@ -55,8 +55,8 @@ pub(crate) fn is_real(date: Date) -> bool
 
 // Whether a date is earlier than another one: by year, then by month, then by day (rule 19.6).
 pub(crate) fn is_earlier(date: Date, other: Date) -> bool
-    requires { (isReal date ≡ true) × (isReal other ≡ true) }
-    ensures { result ≡ isEarlier date other }
+    requires { (is_real date ≡ true) × (is_real other ≡ true) }
+    ensures { result ≡ is_earlier date other }
 {
     if date.year != other.year {
         return date.year < other.year;
@@ -69,7 +69,7 @@ pub(crate) fn is_earlier(date: Date, other: Date) -> bool
 
 // Whether both halves of a byte are decimal digits.
 fn is_decimal(b: u8) -> bool
-    ensures { result ≡ isDecimal b }
+    ensures { result ≡ is_decimal b }
 {
     if 9 < b / 16 {
         return false;
@@ -80,7 +80,7 @@ fn is_decimal(b: u8) -> bool
 // Whether four bytes are packed decimal.
 fn are_packed(bytes: &[u8]) -> bool
     requires { length bytes.now ≡ 4 }
-    ensures { result ≡ arePacked bytes.now }
+    ensures { result ≡ are_packed bytes.now }
 {
     if !is_decimal(bytes[0]) {
         return false;
@@ -96,7 +96,7 @@ fn are_packed(bytes: &[u8]) -> bool
 
 // The number that the two digits of a byte say.
 fn two_digits(b: u8) -> u32
-    ensures { (result ≡ twoDigits b) × (result < 256) }
+    ensures { (result ≡ two_digits b) × (result < 256) }
 {
     (b / 16 * 10 + b % 16) as u32
 }
@@ -104,7 +104,7 @@ fn two_digits(b: u8) -> u32
 // The numbers that the digits of four bytes say: two bytes are the year, one the month, one the day (rule 19.3).
 fn date_in(bytes: &[u8]) -> Date
     requires { length bytes.now ≡ 4 }
-    ensures { result ≡ dateIn bytes.now }
+    ensures { result ≡ date_in bytes.now }
 {
     Date {
         year: two_digits(bytes[0]) * 100 + two_digits(bytes[1]),
@@ -116,7 +116,7 @@ fn date_in(bytes: &[u8]) -> Date
 // The date that four bytes of packed decimal say, if there is such a date (rules 19.3 and 19.4).
 pub(crate) fn read_date(bytes: &[u8]) -> ReadDate
     requires { length bytes.now ≡ 4 }
-    ensures { dateReply result ≡ dateOf bytes.now }
+    ensures { date_reply result ≡ date_of bytes.now }
 {
     if !are_packed(bytes) {
         return ReadDate::NoDate;
@@ -138,8 +138,8 @@ fn packed(n: u32) -> u8
 
 // The four bytes of a date.
 pub(crate) fn date_bytes(date: Date) -> [u8; 4]
-    requires { isReal date ≡ true }
-    ensures { result ≡ dateBytes date }
+    requires { is_real date ≡ true }
+    ensures { result ≡ date_bytes date }
 {
     [
         packed(date.year / 100),

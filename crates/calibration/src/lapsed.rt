@@ -1,5 +1,5 @@
 // Whether a calibration has lapsed (rule 19.6).
-ghost use Rattle.calibration.specs.Lapsed.{has-lapsed-is};
+ghost use Rattle.calibration.specs.Lapsed.{HasLapsedIs};
 
 use crate::date::{Date, is_earlier, is_real};
 use crate::profile::{ReadProfile, read_profile};
@@ -13,7 +13,7 @@ pub enum HasLapsed {
 
 // Whether the due date of a record is earlier than a given date, by the calendar. On the day itself it is not.
 pub fn has_lapsed(record: &[u8], on: Date) -> HasLapsed
-    ensures { has-lapsed-is «record».now on result }
+    ensures { HasLapsedIs «record».now on result }
 {
     match read_profile(record) {
         ReadProfile::Refused(k) => HasLapsed::Refused(k),

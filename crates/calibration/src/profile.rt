@@ -1,7 +1,7 @@
 // A calibration record read: exactly E1 with C1, C2 and C3 in that order (rules 19.1, 19.2 and 19.5).
 ghost use Rattle.std.specs.Prelude.{◌≡◌, ◌&&◌, ◌+◌, ◌≤◌, ◌<◌, eqb, length, get_or};
 ghost use Rattle.basis.specs.Number.{number};
-ghost use Rattle.calibration.specs.Profile.{isProfile, read-profile-is, serial-is};
+ghost use Rattle.calibration.specs.Profile.{is_profile, ReadProfileIs, SerialIs};
 
 use crate::date::{Date, ReadDate, read_date};
 
@@ -35,7 +35,7 @@ fn is_head(record: &[u8], at: usize, tag: u8, len: u8) -> bool
 // Whether bytes are of the form `E1 (n + 14) C1 n (serial of n) C2 04 (date) C3 04 (capacity)`, n from 1 to 16, with
 // nothing before, between or behind (rule 19.1).
 fn is_profile(record: &[u8]) -> bool
-    ensures { result ≡ isProfile «record».now }
+    ensures { result ≡ is_profile «record».now }
 {
     let size = record.len();
     if size < 17 {
@@ -76,7 +76,7 @@ fn four_bytes(bytes: &[u8]) -> u32
 
 // Reads a record (rules 19.1 to 19.5). Its form is tested whole before its date.
 pub fn read_profile(record: &[u8]) -> ReadProfile
-    ensures { read-profile-is «record».now result }
+    ensures { ReadProfileIs «record».now result }
 {
     if !is_profile(record) {
         return ReadProfile::Refused(26);
@@ -95,7 +95,7 @@ pub fn read_profile(record: &[u8]) -> ReadProfile
 
 // The serial, as that very part of the record; no bytes if the record is refused (rule 19.2).
 pub fn serial<'a>(record: &'a [u8]) -> &'a [u8]
-    ensures { serial-is «record».now result.now }
+    ensures { SerialIs «record».now result.now }
 {
     match read_profile(record) {
         ReadProfile::Refused(_) => &record[..0],

@@ -1,10 +1,10 @@
 // A calibration record written into a lent buffer from a place (rule 19.9).
 ghost use Rattle.std.specs.Prelude.{◌≡◌, true, [], ◌∷◌, ◌+◌, ◌≤◌, length};
 ghost use Rattle.basis.specs.Number.{be};
-ghost use Rattle.basis.specs.Over.{over, overAt};
-ghost use Rattle.calibration.specs.Date.{isReal};
-ghost use Rattle.calibration.specs.Profile.{object, fields, recordOf};
-ghost use Rattle.calibration.specs.Put.{put-profile-is};
+ghost use Rattle.basis.specs.Over.{over, over_at};
+ghost use Rattle.calibration.specs.Date.{is_real};
+ghost use Rattle.calibration.specs.Profile.{object, fields, record_of};
+ghost use Rattle.calibration.specs.Put.{PutProfileIs};
 
 use crate::date::{Date, date_bytes, is_real};
 
@@ -55,8 +55,8 @@ fn put_object(tag: u8, value: [u8; 4], part: &mut [u8])
 
 // Writes a record that fits: each of its fields into the part of the buffer that starts at its place.
 fn write(serial: &[u8], due: Date, capacity: u32, buffer: &mut [u8], at: usize)
-    requires { (length serial.now ≤ 16) × (isReal due ≡ true) × (at + (length serial.now + 16) ≤ length buffer.old) }
-    ensures { buffer.new ≡ overAt at (recordOf (fields serial.now due capacity)) buffer.old }
+    requires { (length serial.now ≤ 16) × (is_real due ≡ true) × (at + (length serial.now + 16) ≤ length buffer.old) }
+    ensures { buffer.new ≡ over_at at (record_of (fields serial.now due capacity)) buffer.old }
 {
     let n = serial.len();
     let at_serial = at + 4;
@@ -77,7 +77,7 @@ pub fn put_profile(
     buffer: &mut [u8],
     at: usize,
 ) -> PutProfile
-    ensures { put-profile-is (fields serial.now due capacity) buffer.old at result buffer.new }
+    ensures { PutProfileIs (fields serial.now due capacity) buffer.old at result buffer.new }
 {
     let n = serial.len();
     if n < 1 {

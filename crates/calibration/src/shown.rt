@@ -1,5 +1,5 @@
 // The due date shown: the card's or, if its record is refused, the desk's (rules 19.7 and 19.8).
-ghost use Rattle.calibration.specs.Shown.{due-shown-from-is, due-shown-is};
+ghost use Rattle.calibration.specs.Shown.{DueShownFromIs, DueShownIs};
 
 use crate::profile::{ReadProfile, read_profile};
 
@@ -13,7 +13,7 @@ pub enum DueShownFrom {
 
 // Whose due date is shown, and its place in that record (rule 19.8).
 pub fn due_shown_from(card: &[u8], desk: &[u8]) -> DueShownFrom
-    ensures { due-shown-from-is card.now desk.now result }
+    ensures { DueShownFromIs card.now desk.now result }
 {
     match read_profile(card) {
         ReadProfile::Profile(profile) => DueShownFrom::Card(profile.serial + 6),
@@ -27,7 +27,7 @@ pub fn due_shown_from(card: &[u8], desk: &[u8]) -> DueShownFrom
 // The four bytes of the due date shown, as that very part of the card's record or of the desk's; no bytes if both are
 // refused (rules 19.7 and 12.16).
 pub fn due_shown<'a>(card: &'a [u8], desk: &'a [u8]) -> &'a [u8]
-    ensures { due-shown-is card.now desk.now result.now }
+    ensures { DueShownIs card.now desk.now result.now }
 {
     match due_shown_from(card, desk) {
         DueShownFrom::Card(at) => {

@@ -3,8 +3,8 @@
 // `out` is too short: 16, before 26 and 27.
 ghost use Rattle.std.specs.Prelude.{◌≡◌};
 ghost use Rattle.abi.specs.Answers.{NumbersWritten, ReplyCopied};
-ghost use Rattle.calibration_abi.specs.Numbers.{dateBy, profileNumbers, readReply, serialReply, lapsedReply};
-ghost use Rattle.calibration_abi.specs.Numbers.{shownReply, shownFromReply, fieldsBy, ProfilePut};
+ghost use Rattle.calibration_abi.specs.Numbers.{date_by, profile_numbers, read_reply, serial_reply, lapsed_reply};
+ghost use Rattle.calibration_abi.specs.Numbers.{shown_reply, shown_from_reply, fields_by, ProfilePut};
 
 use abi::{copy_bytes, flag, refusal_status, write_numbers};
 use calibration::{
@@ -15,7 +15,7 @@ use calibration::{
 // The five numbers of a record (rule 19.12): how many bytes the serial has; the year, the month and the day of the due
 // date; the capacity in milligrams.
 fn profile_numbers(profile: Profile) -> [u64; 5]
-    ensures { result ≡ profileNumbers profile }
+    ensures { result ≡ profile_numbers profile }
 {
     let due = profile.due;
     [
@@ -30,7 +30,7 @@ fn profile_numbers(profile: Profile) -> [u64; 5]
 // Reads a record, and writes its 5 numbers (rules 19.5 and 19.12). Refused with 16, then 26, then 27.
 #[unsafe(no_mangle)]
 pub extern "C" fn gorvisclen_read_profile(record: &[u8], out: &mut [u64]) -> u8
-    ensures { NumbersWritten 5 (readReply «record».now) out.old result out.new }
+    ensures { NumbersWritten 5 (read_reply «record».now) out.old result out.new }
 {
     match read_profile(record) {
         ReadProfile::Refused(k) => refusal_status(k, out.len(), 5),
@@ -45,7 +45,7 @@ pub extern "C" fn gorvisclen_read_profile(record: &[u8], out: &mut [u64]) -> u8
 // with 16 if `out` is too short, then 26, 27, then 16 if `to` is too short.
 #[unsafe(no_mangle)]
 pub extern "C" fn gorvisclen_profile_serial(record: &[u8], to: &mut [u8], out: &mut [u64]) -> u8
-    ensures { ReplyCopied (serialReply «record».now) to.old out.old result to.new out.new }
+    ensures { ReplyCopied (serial_reply «record».now) to.old out.old result to.new out.new }
 {
     match read_profile(record) {
         ReadProfile::Refused(k) => refusal_status(k, out.len(), 1),
@@ -63,7 +63,7 @@ pub extern "C" fn gorvisclen_has_lapsed(
     day: u32,
     out: &mut [u64],
 ) -> u8
-    ensures { NumbersWritten 1 (lapsedReply «record».now (dateBy year month day)) out.old result out.new }
+    ensures { NumbersWritten 1 (lapsed_reply «record».now (date_by year month day)) out.old result out.new }
 {
     let on = Date { year, month, day };
     match has_lapsed(record, on) {
@@ -82,7 +82,7 @@ pub extern "C" fn gorvisclen_due_shown<'a>(
     to: &mut [u8],
     out: &mut [u64],
 ) -> u8
-    ensures { ReplyCopied (shownReply card.now desk.now) to.old out.old result to.new out.new }
+    ensures { ReplyCopied (shown_reply card.now desk.now) to.old out.old result to.new out.new }
 {
     match due_shown_from(card, desk) {
         DueShownFrom::Refused(k) => refusal_status(k, out.len(), 1),
@@ -95,7 +95,7 @@ pub extern "C" fn gorvisclen_due_shown<'a>(
 // 19.12). Refused with 16, then as the desk's record if both are refused.
 #[unsafe(no_mangle)]
 pub extern "C" fn gorvisclen_due_shown_from(card: &[u8], desk: &[u8], out: &mut [u64]) -> u8
-    ensures { NumbersWritten 2 (shownFromReply card.now desk.now) out.old result out.new }
+    ensures { NumbersWritten 2 (shown_from_reply card.now desk.now) out.old result out.new }
 {
     match due_shown_from(card, desk) {
         DueShownFrom::Refused(k) => refusal_status(k, out.len(), 2),
@@ -118,7 +118,7 @@ pub extern "C" fn gorvisclen_put_profile(
     at: usize,
     out: &mut [u64],
 ) -> u8
-    ensures { ProfilePut (fieldsBy serial.now year month day capacity) at buffer.old out.old result buffer.new out.new }
+    ensures { ProfilePut (fields_by serial.now year month day capacity) at buffer.old out.old result buffer.new out.new }
 {
     if out.len() < 1 {
         return 16;

@@ -8,13 +8,13 @@ use Rattle.calibration.specs.declared.date.Date.{Date}
 pub record RealDate (d : Date) : Type 0 where
   pub since : 2000 ≤ d.year
   pub until : d.year ≤ 2099
-  pub first-month : 1 ≤ d.month
-  pub last-month : d.month ≤ 12
-  pub first-day : 1 ≤ d.day
-  pub last-day : d.day ≤ 31
-  pub short-month : (d.month ≡ 4) ⊎ (d.month ≡ 6) ⊎ (d.month ≡ 9) ⊎ (d.month ≡ 11) → d.day ≤ 30
+  pub first_month : 1 ≤ d.month
+  pub last_month : d.month ≤ 12
+  pub first_day : 1 ≤ d.day
+  pub last_day : d.day ≤ 31
+  pub short_month : (d.month ≡ 4) ⊎ (d.month ≡ 6) ⊎ (d.month ≡ 9) ⊎ (d.month ≡ 11) → d.day ≤ 30
   pub february : d.month ≡ 2 → d.day ≤ 29
-  pub no-leap-year : d.month ≡ 2 → (d.year % 4 ≡ 0 → ⊥) → d.day ≤ 28
+  pub no_leap_year : d.month ≡ 2 → (d.year % 4 ≡ 0 → ⊥) → d.day ≤ 28
 
 -- the first of two dates is earlier, by year, then by month, then by day (rule 19.6)
 abbrev pub Earlier : Date → Date → Type 0
@@ -23,14 +23,14 @@ Earlier d e =
     ⊎ ((d.year ≡ e.year) × (d.month ≡ e.month) × (d.day < e.day))
 
 -- the eight decimal digits of a date, two in a byte (rule 19.3)
-abbrev pub digitBytes : Date → List ℕ
-digitBytes d =
+abbrev pub digit_bytes : Date → List ℕ
+digit_bytes d =
     (d.year / 1000 * 16 + d.year / 100 % 10) ∷ (d.year / 10 % 10 * 16 + d.year % 10)
     ∷ (d.month / 10 * 16 + d.month % 10) ∷ (d.day / 10 * 16 + d.day % 10) ∷ []
 
 -- the bytes of a record with these three values (rule 19.1)
-abbrev pub formBytes : List ℕ → List ℕ → List ℕ → List ℕ
-formBytes serial due capacity =
+abbrev pub form_bytes : List ℕ → List ℕ → List ℕ → List ℕ
+form_bytes serial due capacity =
     0xE1 ∷ (length serial + 14) ∷ 0xC1 ∷ length serial ∷ (serial ++ (0xC2 ∷ 4 ∷ (due ++ (0xC3 ∷ 4 ∷ capacity))))
 
 -- bytes of this form, whatever the date is (rules 19.1 and 19.2)
@@ -40,14 +40,14 @@ pub record OfForm (s : List ℕ) : Type 0 where
   pub capacity : List ℕ
   pub least : 1 ≤ length serial
   pub most : length serial ≤ 16
-  pub four-of-date : length due ≡ 4
-  pub four-of-capacity : length capacity ≡ 4
-  pub whole : s ≡ formBytes serial due capacity
+  pub four_of_date : length due ≡ 4
+  pub four_of_capacity : length capacity ≡ 4
+  pub whole : s ≡ form_bytes serial due capacity
 
 -- the same if the date's bytes are those of no real date (rule 19.5)
 pub record NoDate (s : List ℕ) : Type 0 where
   pub form : OfForm s
-  pub none : (d : Date) → RealDate d → form.due ≡ digitBytes d → ⊥
+  pub none : (d : Date) → RealDate d → form.due ≡ digit_bytes d → ⊥
 
 -- fields that a record can have (rule 19.2)
 pub record InRange (f : Fields) : Type 0 where
@@ -59,7 +59,7 @@ pub record InRange (f : Fields) : Type 0 where
 
 -- the record of some fields: their bytes one by one (rules 19.1 to 19.3). Fields and bytes correspond one to one (rule
 -- 19.10)
-abbrev pub plainRecord : Fields → List ℕ
-plainRecord f =
-    formBytes f.serial (digitBytes f.due)
+abbrev pub plain_record : Fields → List ℕ
+plain_record f =
+    form_bytes f.serial (digit_bytes f.due)
     (f.capacity / 16777216 % 256 ∷ f.capacity / 65536 % 256 ∷ f.capacity / 256 % 256 ∷ f.capacity % 256 ∷ [])

@@ -2,8 +2,8 @@
 use Rattle.std.specs.Prelude.{ℕ, Bool, true, false, cond, List, [], ◌∷◌, ltb, eqb}
 
 -- whether a text stands before another one in the order of a dictionary
-unfoldable pub standsBefore : List ℕ → List ℕ → Bool
-standsBefore [] [] = false
-standsBefore [] (y ∷ t) = true
-standsBefore (x ∷ s) [] = false
-standsBefore (x ∷ s) (y ∷ t) = cond (ltb x y) true (cond (eqb x y) (standsBefore s t) false)
+unfoldable pub stands_before : List ℕ → List ℕ → Bool
+stands_before [] [] = false
+stands_before [] (y ∷ t) = true
+stands_before (x ∷ s) [] = false
+stands_before (x ∷ s) (y ∷ t) = cond (ltb x y) true (cond (eqb x y) (stands_before s t) false)

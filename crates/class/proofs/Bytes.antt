@@ -3,13 +3,13 @@ use Prim.Native.Nat.{ℕ}
 use mathlib.Core.Path.{◌≡◌}
 use borrow.Author.Tests.{eq-eqb, ne_eqb}
 use Rattle.basis.specs.Reply.{ok, refused}
-use Rattle.class.specs.Class.{fromByte}
+use Rattle.class.specs.Class.{from_byte}
 
 module _ (c : ℕ) where
-  pub no-class : c ≡ 0xFF → fromByte c ≡ refused 3
-  unfolding fromByte
-  no-class h = rw (eq-eqb c 0xFF h)
+  pub no_class : c ≡ 0xFF → from_byte c ≡ refused 3
+  unfolding from_byte
+  no_class h = rw (eq-eqb c 0xFF h)
 
-  pub class_of : (c ≡ 0xFF → ⊥) → fromByte c ≡ ok (record { cla = c })
-  unfolding fromByte
+  pub class_of : (c ≡ 0xFF → ⊥) → from_byte c ≡ ok (record { cla = c })
+  unfolding from_byte
   class_of h = rw (ne_eqb c 0xFF h)

@@ -1,7 +1,7 @@
 -- The logical channel in both readings (rules 8.6 and 8.7). ISO/IEC 7816-4:2005 5.1.1, tables 2 and 3.
 use Rattle.std.specs.Prelude.{ℕ, ◌+◌, ◌%◌, ◌≡◌}
 use Rattle.std.proofs.Math.Option.{Option, none, some}
-use Rattle.class.specs.Range.{range_of, byRange}
+use Rattle.class.specs.Range.{range_of, by_range}
 use Rattle.class.specs.declared.Class.{Class}
 use Rattle.class.specs.declared.Reading.{Reading}
 use Rattle.class.specs.declared.Reading.TheVariants.{Crate, Standard}
@@ -9,20 +9,20 @@ use Rattle.class.specs.declared.channel.Channel.{Channel}
 use Rattle.class.specs.declared.channel.Channel.TheVariants.{Number, None}
 
 -- further interindustry (rule 8.7): the standard adds 4 to bits 4 to 1, the Rust keeps three bits of that sum
-unfoldable pub furtherOf : Reading → ℕ → ℕ
-furtherOf Crate c = (4 + c) % 8
-furtherOf Standard c = 4 + c % 16
+unfoldable pub further_of : Reading → ℕ → ℕ
+further_of Crate c = (4 + c) % 8
+further_of Standard c = 4 + c % 16
 
 -- the channel of a class: bits 2 and 1 of a first interindustry class; reserved and proprietary classes have none (rule
 -- 8.6)
-unfoldable pub channelOf : Reading → ℕ → Option ℕ
-channelOf r c = byRange (range_of c) (some (c % 4)) (some (furtherOf r c)) none
+unfoldable pub channel_of : Reading → ℕ → Option ℕ
+channel_of r c = by_range (range_of c) (some (c % 4)) (some (further_of r c)) none
 
 -- an answer of the code as a number, or none
-abbrev pub channelAsOption : Channel → Option ℕ
-channelAsOption (Number n) = some n
-channelAsOption None = none
+abbrev pub channel_as_option : Channel → Option ℕ
+channel_as_option (Number n) = some n
+channel_as_option None = none
 
 -- the promise of `channel`
-abbrev pub channel-is : Reading → Class → Channel → Type 0
-channel-is r c x = channelAsOption x ≡ channelOf r c.cla
+abbrev pub ChannelIs : Reading → Class → Channel → Type 0
+ChannelIs r c x = channel_as_option x ≡ channel_of r c.cla

@@ -1,10 +1,10 @@
 -- The range of a class, the same in both readings (rule 8.1). ISO/IEC 7816-4:2005 5.1.1, tables 2 and 3.
 use Rattle.std.specs.Prelude.{ℕ, ◌≡◌, cond, eqb, ltb}
 use Rattle.basis.specs.Reply.{Reply, ok, refused, then}
-use Rattle.class.specs.Class.{fromByte}
+use Rattle.class.specs.Class.{from_byte}
 use Rattle.class.specs.declared.Class.{Class}
 use Rattle.class.specs.declared.range.FromCla.{FromCla}
-use Rattle.class.specs.declared.range.FromCla.TheVariants as from-cla
+use Rattle.class.specs.declared.range.FromCla.TheVariants as from_cla_cases
 use Rattle.class.specs.declared.range.Range.{Range}
 use Rattle.class.specs.declared.range.Range.TheVariants as range
 use Rattle.class.specs.declared.range.Interindustry.TheVariants.{First, Further, Reserved}
@@ -28,27 +28,27 @@ unfoldable pub range_of : ℕ → ℕ
 range_of c = cond (ltb c 0x20) first (cond (ltb c 0x40) reserved (cond (ltb c 0x80) further proprietary))
 
 -- one of three by the range: first interindustry, further interindustry, any other
-abbrev pub byRange : {A : Type 0} → ℕ → A → A → A → A
-byRange x a b o = cond (eqb x first) a (cond (eqb x further) b o)
+abbrev pub by_range : {A : Type 0} → ℕ → A → A → A → A
+by_range x a b o = cond (eqb x first) a (cond (eqb x further) b o)
 
 -- the range of a byte; FF is no class and is refused with 3 (rule 8.1)
-unfoldable pub fromCla : ℕ → Reply ℕ
-fromCla c = then (fromByte c) (λ x. ok (range_of x.cla))
+unfoldable pub from_cla : ℕ → Reply ℕ
+from_cla c = then (from_byte c) (λ x. ok (range_of x.cla))
 
 -- the answers of the code as these numbers (rule 12.13)
-abbrev pub rangeAsNumber : Range → ℕ
-rangeAsNumber (range.Interindustry First) = first
-rangeAsNumber (range.Interindustry Further) = further
-rangeAsNumber (range.Interindustry Reserved) = reserved
-rangeAsNumber range.Proprietary = proprietary
+abbrev pub range_as_number : Range → ℕ
+range_as_number (range.Interindustry First) = first
+range_as_number (range.Interindustry Further) = further
+range_as_number (range.Interindustry Reserved) = reserved
+range_as_number range.Proprietary = proprietary
 
-abbrev pub fromClaAsReply : FromCla → Reply ℕ
-fromClaAsReply (from-cla.Range x) = ok (rangeAsNumber x)
-fromClaAsReply (from-cla.Refused k) = refused k
+abbrev pub from_cla_as_reply : FromCla → Reply ℕ
+from_cla_as_reply (from_cla_cases.Range x) = ok (range_as_number x)
+from_cla_as_reply (from_cla_cases.Refused k) = refused k
 
 -- the promises of `range` and `from_cla`
-abbrev pub range-is : Class → Range → Type 0
-range-is c r = rangeAsNumber r ≡ range_of c.cla
+abbrev pub RangeIs : Class → Range → Type 0
+RangeIs c r = range_as_number r ≡ range_of c.cla
 
-abbrev pub from-cla-is : ℕ → FromCla → Type 0
-from-cla-is c r = fromClaAsReply r ≡ fromCla c
+abbrev pub FromClaIs : ℕ → FromCla → Type 0
+FromClaIs c r = from_cla_as_reply r ≡ from_cla c

@@ -1,6 +1,6 @@
 -- The secure messaging indication in both readings (rules 8.4 and 8.5). ISO/IEC 7816-4:2005 5.1.1, tables 2 and 3.
 use Rattle.std.specs.Prelude.{ℕ, ◌/◌, ◌%◌, ◌≡◌, Bool, cond, eqb}
-use Rattle.class.specs.Range.{range_of, byRange}
+use Rattle.class.specs.Range.{range_of, by_range}
 use Rattle.class.specs.declared.Class.{Class}
 use Rattle.class.specs.declared.Reading.{Reading}
 use Rattle.class.specs.declared.Reading.TheVariants as reading
@@ -28,25 +28,25 @@ abbrev pub first_of : ℕ → ℕ
 first_of c = c / 4 % 4
 
 -- further interindustry: the Rust says `Standard` always, the standard goes by bit 6 (rule 8.5)
-unfoldable pub furtherOf : Reading → ℕ → ℕ
-furtherOf reading.Crate c = standard
-furtherOf reading.Standard c = cond (eqb (c / 32 % 2) 0) none standard
+unfoldable pub further_of : Reading → ℕ → ℕ
+further_of reading.Crate c = standard
+further_of reading.Standard c = cond (eqb (c / 32 % 2) 0) none standard
 
 -- the indication of a class: a reserved or proprietary class says nothing, so it is unknown (rule 8.4)
-unfoldable pub secureMessagingOf : Reading → ℕ → ℕ
-secureMessagingOf r c = byRange (range_of c) (first_of c) (furtherOf r c) unknown
+unfoldable pub secure_messaging_of : Reading → ℕ → ℕ
+secure_messaging_of r c = by_range (range_of c) (first_of c) (further_of r c) unknown
 
 -- an answer of the code as its number
-abbrev pub secureMessagingAsNumber : SecureMessaging → ℕ
-secureMessagingAsNumber None = none
-secureMessagingAsNumber Proprietary = proprietary
-secureMessagingAsNumber Standard = standard
-secureMessagingAsNumber Authenticated = authenticated
-secureMessagingAsNumber Unknown = unknown
+abbrev pub secure_messaging_as_number : SecureMessaging → ℕ
+secure_messaging_as_number None = none
+secure_messaging_as_number Proprietary = proprietary
+secure_messaging_as_number Standard = standard
+secure_messaging_as_number Authenticated = authenticated
+secure_messaging_as_number Unknown = unknown
 
 -- the promises of `secure_messaging` and `none`
-abbrev pub secure-messaging-is : Reading → Class → SecureMessaging → Type 0
-secure-messaging-is r c x = secureMessagingAsNumber x ≡ secureMessagingOf r c.cla
+abbrev pub SecureMessagingIs : Reading → Class → SecureMessaging → Type 0
+SecureMessagingIs r c x = secure_messaging_as_number x ≡ secure_messaging_of r c.cla
 
-abbrev pub none_is : SecureMessaging → Bool → Type 0
-none_is x r = r ≡ eqb (secureMessagingAsNumber x) none
+abbrev pub NoneIs : SecureMessaging → Bool → Type 0
+NoneIs x r = r ≡ eqb (secure_messaging_as_number x) none

@@ -1,6 +1,6 @@
 // The chaining bit, 0x10 (rules 8.2 and 8.3).
 // Ported, with changes, from src/command/class.rs of the crate iso7816 0.2.2 (see NOTICE).
-ghost use Rattle.class.specs.Chain.{chain-is, as-chained-is, last-or-only-is, not-the-last-is};
+ghost use Rattle.class.specs.Chain.{ChainIs, AsChainedIs, LastOrOnlyIs, NotTheLastIs};
 
 use crate::Class;
 
@@ -15,7 +15,7 @@ pub enum Chain {
 impl Chain {
     // Whether it is the last or only command.
     pub fn last_or_only(self) -> bool
-        ensures { last-or-only-is self result }
+        ensures { LastOrOnlyIs self result }
     {
         match self {
             Chain::LastOrOnly => true,
@@ -26,7 +26,7 @@ impl Chain {
 
     // Whether others follow.
     pub fn not_the_last(self) -> bool
-        ensures { not-the-last-is self result }
+        ensures { NotTheLastIs self result }
     {
         match self {
             Chain::LastOrOnly => false,
@@ -39,7 +39,7 @@ impl Chain {
 impl Class {
     // What bit 0x10 of the byte says (rule 8.2).
     pub fn chain(self) -> Chain
-        ensures { chain-is self result }
+        ensures { ChainIs self result }
     {
         if self.cla & 0x10 != 0 {
             Chain::NotTheLast
@@ -50,7 +50,7 @@ impl Class {
 
     // The class with bit 0x10 set; of 0xEF that is 0xFF, which is no class (rule 8.3).
     pub fn as_chained(self) -> Class
-        ensures { as-chained-is self result }
+        ensures { AsChainedIs self result }
     {
         Class {
             cla: self.cla | 0x10,

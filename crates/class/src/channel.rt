@@ -1,7 +1,7 @@
 // The logical channel (rules 8.6 and 8.7).
 // Ported, with changes, from src/command/class.rs of the crate iso7816 0.2.2 (see NOTICE).
 ghost use Rattle.std.specs.Prelude.{◌≡◌};
-ghost use Rattle.class.specs.Channel.{furtherOf, channel-is};
+ghost use Rattle.class.specs.Channel.{further_of, ChannelIs};
 
 use crate::{Class, Interindustry, Range, Reading};
 
@@ -14,7 +14,7 @@ pub enum Channel {
 
 // The channel of a further interindustry class, 40 to 7F (rule 8.7).
 fn further(reading: Reading, cla: u8) -> u8
-    ensures { result ≡ furtherOf reading cla }
+    ensures { result ≡ further_of reading cla }
 {
     match reading {
         Reading::Crate => (4 + cla % 8) % 8,
@@ -25,7 +25,7 @@ fn further(reading: Reading, cla: u8) -> u8
 impl Class {
     // The channel in a reading (rule 8.6 outside 40 to 7F).
     pub fn channel(self, reading: Reading) -> Channel
-        ensures { channel-is reading self result }
+        ensures { ChannelIs reading self result }
     {
         let cla = self.cla;
         match self.range() {

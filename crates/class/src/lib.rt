@@ -1,7 +1,7 @@
 // The class byte of a command: its range, secure messaging, chaining and channel, in the crate and the standard
 // reading.
 // Ported, with changes, from src/command/class.rs of the crate iso7816 0.2.2 (see NOTICE).
-ghost use Rattle.class.specs.Class.{from-byte-is, into-inner-is};
+ghost use Rattle.class.specs.Class.{FromByteIs, IntoInnerIs};
 
 mod chain;
 mod channel;
@@ -43,7 +43,7 @@ pub const SM_CLA: Class = Class { cla: 0x84 };
 impl Class {
     // The class of a byte; 0xFF is refused with 3 (rule 1.3).
     pub fn from_byte(cla: u8) -> FromByte
-        ensures { from-byte-is cla result }
+        ensures { FromByteIs cla result }
     {
         if cla == 0xFF {
             return FromByte::Refused(3);
@@ -53,7 +53,7 @@ impl Class {
 
     // The byte of a class.
     pub fn into_inner(self) -> u8
-        ensures { into-inner-is self result }
+        ensures { IntoInnerIs self result }
     {
         self.cla
     }

@@ -1,6 +1,6 @@
 // The four ranges of class bytes (rule 8.1).
 // Ported, with changes, from src/command/class.rs of the crate iso7816 0.2.2 (see NOTICE).
-ghost use Rattle.class.specs.Range.{range-is, from-cla-is};
+ghost use Rattle.class.specs.Range.{RangeIs, FromClaIs};
 
 use crate::{Class, FromByte};
 
@@ -29,7 +29,7 @@ pub enum FromCla {
 impl Range {
     // The range of a class byte; 0xFF is refused with 3.
     pub fn from_cla(cla: u8) -> FromCla
-        ensures { from-cla-is cla result }
+        ensures { FromClaIs cla result }
     {
         match Class::from_byte(cla) {
             FromByte::Class(class) => FromCla::Range(class.range()),
@@ -41,7 +41,7 @@ impl Range {
 impl Class {
     // The range in which the byte lies (rule 8.1).
     pub fn range(self) -> Range
-        ensures { range-is self result }
+        ensures { RangeIs self result }
     {
         let cla = self.cla;
         match cla {

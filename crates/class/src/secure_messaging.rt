@@ -1,7 +1,7 @@
 // The secure messaging indication (rules 8.4 and 8.5).
 // Ported, with changes, from src/command/class.rs of the crate iso7816 0.2.2 (see NOTICE).
 ghost use Rattle.std.specs.Prelude.{◌≡◌};
-ghost use Rattle.class.specs.SecureMessaging.{first_of, furtherOf, secureMessagingAsNumber, secure-messaging-is, none_is};
+ghost use Rattle.class.specs.SecureMessaging.{first_of, further_of, secure_messaging_as_number, SecureMessagingIs, NoneIs};
 
 use crate::{Class, Interindustry, Range, Reading};
 
@@ -18,7 +18,7 @@ pub enum SecureMessaging {
 impl SecureMessaging {
     // Whether there is no secure messaging.
     pub fn none(self) -> bool
-        ensures { none_is self result }
+        ensures { NoneIs self result }
     {
         match self {
             SecureMessaging::None => true,
@@ -32,7 +32,7 @@ impl SecureMessaging {
 
 // The indication of a first interindustry class: bits 4 and 3 (rule 8.4).
 fn first(cla: u8) -> SecureMessaging
-    ensures { secureMessagingAsNumber result ≡ first_of cla }
+    ensures { secure_messaging_as_number result ≡ first_of cla }
 {
     let bits = cla / 4 % 4;
     match bits {
@@ -45,7 +45,7 @@ fn first(cla: u8) -> SecureMessaging
 
 // The indication of a further interindustry class, 40 to 7F (rule 8.5).
 fn further(reading: Reading, cla: u8) -> SecureMessaging
-    ensures { secureMessagingAsNumber result ≡ furtherOf reading cla }
+    ensures { secure_messaging_as_number result ≡ further_of reading cla }
 {
     match reading {
         Reading::Crate => SecureMessaging::Standard,
@@ -62,7 +62,7 @@ fn further(reading: Reading, cla: u8) -> SecureMessaging
 impl Class {
     // The indication in a reading (rule 8.4 outside 40 to 7F).
     pub fn secure_messaging(self, reading: Reading) -> SecureMessaging
-        ensures { secure-messaging-is reading self result }
+        ensures { SecureMessagingIs reading self result }
     {
         let cla = self.cla;
         match self.range() {

@@ -2,13 +2,13 @@
 use Rattle.std.specs.Prelude.{ℕ, List, [], ◌∷◌, eqb}
 use Rattle.std.proofs.Math.Option.{Option}
 use Rattle.basis.specs.Reply.{Reply, ok, then}
-use Rattle.class.specs.Class.{fromByte}
-use Rattle.class.specs.Range.{range_of, fromCla}
-use Rattle.class.specs.SecureMessaging.{secureMessagingOf, none}
-use Rattle.class.specs.Chain.{chainingBit, chained, lastOrOnly, notTheLast}
-use Rattle.class.specs.Channel.{channelOf}
+use Rattle.class.specs.Class.{from_byte}
+use Rattle.class.specs.Range.{range_of, from_cla}
+use Rattle.class.specs.SecureMessaging.{secure_messaging_of, none}
+use Rattle.class.specs.Chain.{chaining_bit, chained, last_or_only, not_the_last}
+use Rattle.class.specs.Channel.{channel_of}
 use Rattle.class.specs.declared.Reading.TheVariants as reading
-use Rattle.abi.specs.Answers.{flagOf, orNone}
+use Rattle.abi.specs.Answers.{flag_of, or_none}
 
 -- byte; range; secure messaging in the crate and the standard reading; whether each is none; chaining and its two
 -- tests; the channel in both readings
@@ -18,30 +18,30 @@ row_of c x m n k a b =
     ∷ x
     ∷ m
     ∷ n
-    ∷ flagOf (eqb m none)
-    ∷ flagOf (eqb n none)
+    ∷ flag_of (eqb m none)
+    ∷ flag_of (eqb n none)
     ∷ k
-    ∷ flagOf (eqb k lastOrOnly)
-    ∷ flagOf (eqb k notTheLast)
-    ∷ orNone a
-    ∷ orNone b
+    ∷ flag_of (eqb k last_or_only)
+    ∷ flag_of (eqb k not_the_last)
+    ∷ or_none a
+    ∷ or_none b
     ∷ []
 
 -- the eleven numbers of a class byte
-unfoldable pub numbersOf : ℕ → List ℕ
-numbersOf c =
-    row_of c (range_of c) (secureMessagingOf reading.Crate c) (secureMessagingOf reading.Standard c) (chainingBit c)
-    (channelOf reading.Crate c) (channelOf reading.Standard c)
+unfoldable pub numbers_of : ℕ → List ℕ
+numbers_of c =
+    row_of c (range_of c) (secure_messaging_of reading.Crate c) (secure_messaging_of reading.Standard c) (chaining_bit c)
+    (channel_of reading.Crate c) (channel_of reading.Standard c)
 
 -- what `gorvisclen_class`, `gorvisclen_class_as_chained` and `gorvisclen_range` write for a byte
-unfoldable pub classReply : ℕ → Reply (List ℕ)
-classReply c = then (fromByte c) (λ x. ok (numbersOf x.cla))
+unfoldable pub class_reply : ℕ → Reply (List ℕ)
+class_reply c = then (from_byte c) (λ x. ok (numbers_of x.cla))
 
-unfoldable pub classAsChainedReply : ℕ → Reply (List ℕ)
-classAsChainedReply c = then (fromByte c) (λ x. ok (numbersOf (chained x.cla)))
+unfoldable pub class_as_chained_reply : ℕ → Reply (List ℕ)
+class_as_chained_reply c = then (from_byte c) (λ x. ok (numbers_of (chained x.cla)))
 
-unfoldable pub rangeReply : ℕ → Reply (List ℕ)
-rangeReply c = then (fromCla c) (λ x. ok (x ∷ []))
+unfoldable pub range_reply : ℕ → Reply (List ℕ)
+range_reply c = then (from_cla c) (λ x. ok (x ∷ []))
 
 -- the constants ZERO_CLA, NO_SM_CLA and SM_CLA (rule 8.8)
 abbrev pub constants : Reply (List ℕ)

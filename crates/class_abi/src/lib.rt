@@ -1,12 +1,12 @@
 // What a host program calls of the crate `class`: every operation, in numbers. Each function returns 0, or the number
 // of a refusal (docs/RULES.md, section 1). It writes its numbers to the front of the slice `out`, unless it refuses.
 ghost use Rattle.std.specs.Prelude.{◌≡◌};
-ghost use Rattle.class.specs.Channel.{channelAsOption};
-ghost use Rattle.class.specs.Chain.{chainAsNumber};
-ghost use Rattle.class.specs.Range.{rangeAsNumber};
-ghost use Rattle.class.specs.SecureMessaging.{secureMessagingAsNumber};
-ghost use Rattle.abi.specs.Answers.{NumbersWritten, orNone};
-ghost use Rattle.class_abi.specs.Numbers.{row_of, numbersOf, classReply, classAsChainedReply, rangeReply, constants};
+ghost use Rattle.class.specs.Channel.{channel_as_option};
+ghost use Rattle.class.specs.Chain.{chain_as_number};
+ghost use Rattle.class.specs.Range.{range_as_number};
+ghost use Rattle.class.specs.SecureMessaging.{secure_messaging_as_number};
+ghost use Rattle.abi.specs.Answers.{NumbersWritten, or_none};
+ghost use Rattle.class_abi.specs.Numbers.{row_of, numbers_of, class_reply, class_as_chained_reply, range_reply, constants};
 
 use abi::{flag, refusal_status, write_numbers};
 use class::{
@@ -15,7 +15,7 @@ use class::{
 
 // The number of a range.
 fn range_number(range: Range) -> u64
-    ensures { result ≡ rangeAsNumber range }
+    ensures { result ≡ range_as_number range }
 {
     match range {
         Range::Interindustry(which) => match which {
@@ -29,7 +29,7 @@ fn range_number(range: Range) -> u64
 
 // The number of a secure messaging indication.
 fn indication_number(indication: SecureMessaging) -> u64
-    ensures { result ≡ secureMessagingAsNumber indication }
+    ensures { result ≡ secure_messaging_as_number indication }
 {
     match indication {
         SecureMessaging::None => 0,
@@ -42,7 +42,7 @@ fn indication_number(indication: SecureMessaging) -> u64
 
 // The number of a chaining answer.
 fn chain_number(chain: Chain) -> u64
-    ensures { result ≡ chainAsNumber chain }
+    ensures { result ≡ chain_as_number chain }
 {
     match chain {
         Chain::LastOrOnly => 0,
@@ -53,7 +53,7 @@ fn chain_number(chain: Chain) -> u64
 
 // A channel as a number, 256 for none.
 fn channel_number(channel: Channel) -> u64
-    ensures { result ≡ orNone (channelAsOption channel) }
+    ensures { result ≡ or_none (channel_as_option channel) }
 {
     match channel {
         Channel::Number(n) => n as u64,
@@ -63,7 +63,7 @@ fn channel_number(channel: Channel) -> u64
 
 // The eleven numbers of a class.
 fn numbers(class: Class) -> [u64; 11]
-    ensures { result ≡ numbersOf class.cla }
+    ensures { result ≡ numbers_of class.cla }
 {
     let range = class.range();
     let by_crate = class.secure_messaging(Reading::Crate);
@@ -92,8 +92,8 @@ fn row(
     of_crate: Channel,
     of_standard: Channel,
 ) -> [u64; 11]
-    ensures { result ≡ row_of cla (rangeAsNumber range) (secureMessagingAsNumber by_crate) (secureMessagingAsNumber by_standard) (chainAsNumber chain)
-        (channelAsOption of_crate) (channelAsOption of_standard) }
+    ensures { result ≡ row_of cla (range_as_number range) (secure_messaging_as_number by_crate) (secure_messaging_as_number by_standard) (chain_as_number chain)
+        (channel_as_option of_crate) (channel_as_option of_standard) }
 {
     [
         cla as u64,
@@ -115,7 +115,7 @@ fn row(
 // the crate and in the standard reading, 256 for none.
 #[unsafe(no_mangle)]
 pub extern "C" fn gorvisclen_class(cla: u8, out: &mut [u64]) -> u8
-    ensures { NumbersWritten 11 (classReply cla) out.old result out.new }
+    ensures { NumbersWritten 11 (class_reply cla) out.old result out.new }
 {
     match Class::from_byte(cla) {
         FromByte::Refused(k) => refusal_status(k, out.len(), 11),
@@ -129,7 +129,7 @@ pub extern "C" fn gorvisclen_class(cla: u8, out: &mut [u64]) -> u8
 // Writes the same 11 numbers of the class with its chaining bit set (rule 8.3).
 #[unsafe(no_mangle)]
 pub extern "C" fn gorvisclen_class_as_chained(cla: u8, out: &mut [u64]) -> u8
-    ensures { NumbersWritten 11 (classAsChainedReply cla) out.old result out.new }
+    ensures { NumbersWritten 11 (class_as_chained_reply cla) out.old result out.new }
 {
     match Class::from_byte(cla) {
         FromByte::Refused(k) => refusal_status(k, out.len(), 11),
@@ -143,7 +143,7 @@ pub extern "C" fn gorvisclen_class_as_chained(cla: u8, out: &mut [u64]) -> u8
 // Writes one number: the range of the byte (rule 8.1).
 #[unsafe(no_mangle)]
 pub extern "C" fn gorvisclen_range(cla: u8, out: &mut [u64]) -> u8
-    ensures { NumbersWritten 1 (rangeReply cla) out.old result out.new }
+    ensures { NumbersWritten 1 (range_reply cla) out.old result out.new }
 {
     match Range::from_cla(cla) {
         FromCla::Refused(k) => refusal_status(k, out.len(), 1),

@@ -1,12 +1,12 @@
 -- The proofs of a collection: laws of one response, and one reply for each operation.
 --
 -- Steps, what a response comes to:
---   calls-more, calls-again, calls-nothing: what a status calls for (61xx, 6Cxx, any other). Hypotheses are about SW1.
---   refused-kept: whatever the refusal is, the room stays. The state stays by the form of the answer, which then has
+--   calls_more, calls_again, calls_nothing: what a status calls for (61xx, 6Cxx, any other). Hypotheses are about SW1.
+--   refused_kept: whatever the refusal is, the room stays. The state stays by the form of the answer, which then has
 --     none.
---   from-22: no response is refused with a number below 22.
---   expected-other: xx is the expected length, unless it is 00. That 00 is 256 holds by computing.
---   same-get-response, same-command, answers-refused, answers-done, answers-send serve the proofs of the functions.
+--   from_22: no response is refused with a number below 22.
+--   expected_other: xx is the expected length, unless it is 00. That 00 is 256 holds by computing.
+--   same_get_response, same_command, answers_refused, answers_done, answers_send serve the proofs of the functions.
 -- Writing: what is to be sent is what the builder writes.
 -- OneReply: any two answers, rooms and buffers that a promise allows are equal.
 pub mod Steps

@@ -1,8 +1,8 @@
 // Collecting what a card answers to a command: what to send next after each response, until none is asked for. The data
 // of all responses stand in a room that the caller lends (rules 14.1 to 14.8).
 ghost use Rattle.std.specs.Prelude.{◌≡◌};
-ghost use Rattle.collect.specs.Collect.{expectedBy, getResponse, withLe, builderOf, again, nextAsOption, next_of};
-ghost use Rattle.collect.specs.Collect.{start_is, step_is, write-is, collected-is};
+ghost use Rattle.collect.specs.Collect.{expected_by, get_response, with_le, builder_of, again, next_as_option, next_of};
+ghost use Rattle.collect.specs.Collect.{StartIs, StepIs, WriteIs, CollectedIs};
 
 use builder::{CommandBuilder, ExpectedLen, ExtendedLen, Length};
 use byte_slices::part;
@@ -41,7 +41,7 @@ enum Next {
 
 // The expected length xx of a status 61xx or 6Cxx: 00 means 256 (rules 14.2 and 14.3).
 fn expected(xx: u8) -> ExpectedLen
-    ensures { result ≡ expectedBy xx }
+    ensures { result ≡ expected_by xx }
 {
     if xx == 0 {
         return ExpectedLen::Ne(256);
@@ -51,7 +51,7 @@ fn expected(xx: u8) -> ExpectedLen
 
 // GET RESPONSE for xx bytes, of this class, always with short lengths (rule 14.2).
 fn get_response(class: Class, xx: u8) -> CommandBuilder
-    ensures { result ≡ getResponse class xx }
+    ensures { result ≡ get_response class xx }
 {
     let mode = ExtendedLen::Unsupported;
     let le = expected(xx);
@@ -67,7 +67,7 @@ fn get_response(class: Class, xx: u8) -> CommandBuilder
 
 // A builder with Le xx, and nothing else changed (rule 14.3).
 fn with_le(builder: CommandBuilder, xx: u8) -> CommandBuilder
-    ensures { result ≡ withLe builder xx }
+    ensures { result ≡ with_le builder xx }
 {
     let class = builder.class;
     let le = expected(xx);
@@ -84,7 +84,7 @@ fn with_le(builder: CommandBuilder, xx: u8) -> CommandBuilder
 
 // The builder of what was sent.
 fn builder_of(sent: Sent) -> CommandBuilder
-    ensures { result ≡ builderOf sent }
+    ensures { result ≡ builder_of sent }
 {
     match sent {
         Sent::Command(builder) => builder,
@@ -105,7 +105,7 @@ fn again(sent: Sent, xx: u8) -> Sent
 // What a status calls for: 61xx for GET RESPONSE with the command's class, 6Cxx for what was sent last again, any other
 // for nothing (rules 14.2 to 14.4).
 fn called_for(sent: Sent, status: Status) -> Next
-    ensures { nextAsOption result ≡ next_of sent status }
+    ensures { next_as_option result ≡ next_of sent status }
 {
     if status.sw1 == 0x61 {
         let builder = builder_of(sent);
@@ -121,7 +121,7 @@ fn called_for(sent: Sent, status: Status) -> Next
 impl Collection {
     // The state after a command was sent: no byte is held (rule 14.1).
     pub fn start(command: CommandBuilder) -> Collection
-        ensures { start_is command result }
+        ensures { StartIs command result }
     {
         Collection {
             sent: Sent::Command(command),
@@ -132,7 +132,7 @@ impl Collection {
     // Takes a response: its data go into the room behind those held, whatever its status is, and the status says what
     // to send next (rules 14.2 to 14.6).
     pub fn step(self, response: &[u8], room: &mut [u8]) -> Step
-        ensures { step_is self response.now room.old result room.new }
+        ensures { StepIs self response.now room.old result room.new }
     {
         match response::append(response, self.len, room) {
             Answer::Refused(k) => Step::Refused(k),
@@ -153,7 +153,7 @@ impl Collection {
     // Writes what is to be sent into a buffer from a place: the command with its data, or GET RESPONSE without any.
     // Refused with 13 and 16 as every builder (rule 14.7).
     pub fn write(self, data: &[u8], buffer: &mut [u8], at: usize) -> Length
-        ensures { write-is self «data».now buffer.old at result buffer.new }
+        ensures { WriteIs self «data».now buffer.old at result buffer.new }
     {
         let sent = self.sent;
         match sent {
@@ -165,7 +165,7 @@ impl Collection {
 
 // The data of a whole response: the front of the room, as long as the response says (rule 14.8).
 pub fn collected<'a>(response: Response, room: &'a [u8]) -> &'a [u8]
-    ensures { collected-is response room.now result.now }
+    ensures { CollectedIs response room.now result.now }
 {
     part(room, 0, response.len)
 }

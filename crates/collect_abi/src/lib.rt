@@ -5,10 +5,10 @@ ghost use Rattle.std.specs.Prelude.{◌≤◌, ◌≡◌, length};
 ghost use Rattle.basis.specs.Reply.{ok};
 ghost use Rattle.abi.specs.Answers.{NumbersWritten};
 ghost use Rattle.abi.specs.Serialized.{Serialized};
-ghost use Rattle.collect.specs.Collect.{asReply};
-ghost use Rattle.collect_abi.specs.Numbers.{modeNumber, builderNumbers, stateNumbers, sendingNumbers, startReply};
-ghost use Rattle.collect_abi.specs.Numbers.{dataByKind, sentByKind, stateByNumbers};
-ghost use Rattle.collect_abi.specs.Numbers.{steppedReply, ResponseTaken, SentWritten, CollectedData};
+ghost use Rattle.collect.specs.Collect.{as_reply};
+ghost use Rattle.collect_abi.specs.Numbers.{mode_number, builder_numbers, state_numbers, sending_numbers, start_reply};
+ghost use Rattle.collect_abi.specs.Numbers.{data_by_kind, sent_by_kind, state_by_numbers};
+ghost use Rattle.collect_abi.specs.Numbers.{stepped_reply, ResponseTaken, SentWritten, CollectedData};
 
 use abi::{builder_by_numbers, expected_len_number, refusal_status, write_numbers};
 use builder::{Built, CommandBuilder, ExtendedLen, Length};
@@ -17,7 +17,7 @@ use response::{Response, Status};
 
 // The number of a mode: 0 short only, 1 extended supported, 2 extended forced.
 fn mode_number(mode: ExtendedLen) -> u64
-    ensures { result ≡ modeNumber mode }
+    ensures { result ≡ mode_number mode }
 {
     match mode {
         ExtendedLen::Unsupported => 0,
@@ -28,7 +28,7 @@ fn mode_number(mode: ExtendedLen) -> u64
 
 // The eight numbers of a state: of this kind, with this builder and so many bytes held.
 fn builder_numbers(kind: u64, builder: CommandBuilder, held: usize) -> [u64; 8]
-    ensures { result ≡ builderNumbers kind builder held }
+    ensures { result ≡ builder_numbers kind builder held }
 {
     let class = builder.class;
     let le = builder.le;
@@ -47,7 +47,7 @@ fn builder_numbers(kind: u64, builder: CommandBuilder, held: usize) -> [u64; 8]
 
 // The eight numbers of a state: kind 0 for the command, 1 for GET RESPONSE.
 fn state_numbers(state: Collection) -> [u64; 8]
-    ensures { result ≡ stateNumbers state }
+    ensures { result ≡ state_numbers state }
 {
     let sent = state.sent;
     match sent {
@@ -68,7 +68,7 @@ pub extern "C" fn gorvisclen_collect_start(
     data: &[u8],
     out: &mut [u64],
 ) -> u8
-    ensures { NumbersWritten 8 (startReply class instruction p1 p2 le mode «data».now) out.old result
+    ensures { NumbersWritten 8 (start_reply class instruction p1 p2 le mode «data».now) out.old result
         out.new }
 {
     match builder_by_numbers(class, instruction, p1, p2, le, mode, data) {
@@ -83,7 +83,7 @@ pub extern "C" fn gorvisclen_collect_start(
 
 // The data that are sent with this kind: a command's, and none with GET RESPONSE (rule 14.7).
 fn data_by_kind<'a>(kind: u8, data: &'a [u8]) -> &'a [u8]
-    ensures { result.now ≡ dataByKind kind «data».now }
+    ensures { result.now ≡ data_by_kind kind «data».now }
 {
     if kind == 0 {
         return data;
@@ -93,7 +93,7 @@ fn data_by_kind<'a>(kind: u8, data: &'a [u8]) -> &'a [u8]
 
 // What was sent, by its kind: 0 for the command, any other for GET RESPONSE.
 fn sent_by_kind(kind: u8, builder: CommandBuilder) -> Sent
-    ensures { result ≡ sentByKind kind builder }
+    ensures { result ≡ sent_by_kind kind builder }
 {
     if kind == 0 {
         return Sent::Command(builder);
@@ -103,7 +103,7 @@ fn sent_by_kind(kind: u8, builder: CommandBuilder) -> Sent
 
 // The twelve numbers of an answer that goes on: four zeros, and the eight of the state.
 fn sending_numbers(state: Collection) -> [u64; 12]
-    ensures { result ≡ sendingNumbers state }
+    ensures { result ≡ sending_numbers state }
 {
     let n = state_numbers(state);
     [0, 0, 0, 0, n[0], n[1], n[2], n[3], n[4], n[5], n[6], n[7]]
@@ -111,7 +111,7 @@ fn sending_numbers(state: Collection) -> [u64; 12]
 
 // Writes the answer to a response: the end and eight zeros, or the state with what is to be sent next.
 fn write_step(answer: Step, out: &mut [u64]) -> u8
-    ensures { NumbersWritten 12 (steppedReply (asReply answer)) out.old result out.new }
+    ensures { NumbersWritten 12 (stepped_reply (as_reply answer)) out.old result out.new }
 {
     match answer {
         Step::Refused(k) => refusal_status(k, out.len(), 12),
@@ -157,7 +157,7 @@ pub extern "C" fn gorvisclen_collect_step(
     room: &mut [u8],
     out: &mut [u64],
 ) -> u8
-    ensures { ResponseTaken (stateByNumbers kind class instruction p1 p2 le mode held) response.now
+    ensures { ResponseTaken (state_by_numbers kind class instruction p1 p2 le mode held) response.now
         room.old out.old result room.new out.new }
 {
     match builder_by_numbers(class, instruction, p1, p2, le, mode, &response[..0]) {
@@ -185,7 +185,7 @@ fn write_sent(
     out: &mut [u64],
 ) -> u8
     requires { 1 ≤ length out.old }
-    ensures { Serialized (ok builder) (dataByKind kind «data».now) at buffer.old out.old result
+    ensures { Serialized (ok builder) (data_by_kind kind «data».now) at buffer.old out.old result
         buffer.new out.new }
 {
     let to_send = sent_by_kind(kind, builder);

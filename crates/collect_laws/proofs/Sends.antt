@@ -6,32 +6,32 @@ use mathlib.Core.List.{List, [], ◌∷◌, ◌++◌, append-nil}
 use native.Mathlib.Omega.{arith}
 use borrow.Author.Tests.{eq-eqb, ne_eqb}
 use Rattle.basis.specs.Every.{Every}
-use Rattle.basis.proofs.Every.{every_append, every-weaken}
+use Rattle.basis.proofs.Every.{every_append, every_weaken}
 use Rattle.builder.specs.declared.ExpectedLen.TheVariants.{Ne}
 use Rattle.builder.specs.declared.ExtendedLen.TheVariants.{Unsupported}
 use Rattle.builder.specs.declared.CommandBuilder.{CommandBuilder}
 use Rattle.response.specs.declared.status.Status.{Status}
-use Rattle.collect.specs.Collect.{expectedBy, getResponse, withLe, again}
+use Rattle.collect.specs.Collect.{expected_by, get_response, with_le, again}
 use Rattle.collect.specs.declared.Sent.{Sent}
 use Rattle.collect.specs.declared.Sent.TheVariants.{Command, GetResponse}
-use Rattle.collect_laws.specs.Sends.{sendsAfter, sends, last_of}
-use Rattle.collect_laws.specs.ReadBack.{leAsked}
+use Rattle.collect_laws.specs.Sends.{sends_after, sends, last_of}
+use Rattle.collect_laws.specs.ReadBack.{le_asked}
 
 -- what is sent after a status, by SW1 in numbers
-pub sends-61 : (b : CommandBuilder) (last : Sent) (t : Status) (ts : List Status) → t.sw1 ≡ 0x61
-    → let next = GetResponse (getResponse b.class t.sw2) in sendsAfter b last (t ∷ ts) ≡ next ∷ sendsAfter b next ts
-unfolding sendsAfter
-sends-61 b last t ts e = rw (eq-eqb t.sw1 0x61 e)
+pub sends_61 : (b : CommandBuilder) (last : Sent) (t : Status) (ts : List Status) → t.sw1 ≡ 0x61
+    → let next = GetResponse (get_response b.class t.sw2) in sends_after b last (t ∷ ts) ≡ next ∷ sends_after b next ts
+unfolding sends_after
+sends_61 b last t ts e = rw (eq-eqb t.sw1 0x61 e)
 
-pub sends-6c : (b : CommandBuilder) (last : Sent) (t : Status) (ts : List Status) → t.sw1 ≡ 0x6C
-    → let next = again last t.sw2 in sendsAfter b last (t ∷ ts) ≡ next ∷ sendsAfter b next ts
-unfolding sendsAfter
-sends-6c b last t ts e = rw (ne_eqb t.sw1 0x61 (omega arith), eq-eqb t.sw1 0x6C e)
+pub sends_6c : (b : CommandBuilder) (last : Sent) (t : Status) (ts : List Status) → t.sw1 ≡ 0x6C
+    → let next = again last t.sw2 in sends_after b last (t ∷ ts) ≡ next ∷ sends_after b next ts
+unfolding sends_after
+sends_6c b last t ts e = rw (ne_eqb t.sw1 0x61 (omega arith), eq-eqb t.sw1 0x6C e)
 
-pub sends-nothing : (b : CommandBuilder) (last : Sent) (t : Status) (ts : List Status) → (t.sw1 ≡ 0x61 → ⊥)
-    → (t.sw1 ≡ 0x6C → ⊥) → sendsAfter b last (t ∷ ts) ≡ []
-unfolding sendsAfter
-sends-nothing b last t ts f g = rw (ne_eqb t.sw1 0x61 f, ne_eqb t.sw1 0x6C g)
+pub sends_nothing : (b : CommandBuilder) (last : Sent) (t : Status) (ts : List Status) → (t.sw1 ≡ 0x61 → ⊥)
+    → (t.sw1 ≡ 0x6C → ⊥) → sends_after b last (t ∷ ts) ≡ []
+unfolding sends_after
+sends_nothing b last t ts f g = rw (ne_eqb t.sw1 0x61 f, ne_eqb t.sw1 0x6C g)
 
 -- a status asks for more, in numbers
 abbrev pub Asks : Status → Type 0
@@ -39,129 +39,129 @@ Asks t = (t.sw1 ≡ 0x61) ⊎ (t.sw1 ≡ 0x6C)
 
 -- the first of several statuses asks for x, and what is sent after them
 first_then : (b : CommandBuilder) (last x : Sent) (t : Status) (ts us : List Status)
-    → ((vs : List Status) → sendsAfter b last (t ∷ vs) ≡ x ∷ sendsAfter b x vs)
-    → sendsAfter b x (ts ++ us) ≡ sendsAfter b x ts ++ sendsAfter b (last_of x (sendsAfter b x ts)) us
-    → sendsAfter b last (t ∷ ts ++ us) ≡ sendsAfter b last (t ∷ ts) ++ sendsAfter b (last_of last (sendsAfter b last (t ∷ ts))) us
+    → ((vs : List Status) → sends_after b last (t ∷ vs) ≡ x ∷ sends_after b x vs)
+    → sends_after b x (ts ++ us) ≡ sends_after b x ts ++ sends_after b (last_of x (sends_after b x ts)) us
+    → sends_after b last (t ∷ ts ++ us) ≡ sends_after b last (t ∷ ts) ++ sends_after b (last_of last (sends_after b last (t ∷ ts))) us
 first_then b last x t ts us e h = rw (e (ts ++ us), e ts) (ap (λ l. x ∷ l) h)
 
 -- after statuses that all ask for more it goes on from what was sent last
-pub sends-append : (b : CommandBuilder) (last : Sent) (ts us : List Status) → Every Asks ts
-    → sendsAfter b last (ts ++ us) ≡ sendsAfter b last ts ++ sendsAfter b (last_of last (sendsAfter b last ts)) us
-unfolding sendsAfter
-sends-append b last [] us h = refl
-sends-append b last (t ∷ ts) us (inl e, h) =
-    let x : Sent = GetResponse (getResponse b.class t.sw2) in
-    first_then b last x t ts us (λ vs. sends-61 b last t vs e) (sends-append b x ts us h)
-sends-append b last (t ∷ ts) us (inr e, h) =
+pub sends_append : (b : CommandBuilder) (last : Sent) (ts us : List Status) → Every Asks ts
+    → sends_after b last (ts ++ us) ≡ sends_after b last ts ++ sends_after b (last_of last (sends_after b last ts)) us
+unfolding sends_after
+sends_append b last [] us h = refl
+sends_append b last (t ∷ ts) us (inl e, h) =
+    let x : Sent = GetResponse (get_response b.class t.sw2) in
+    first_then b last x t ts us (λ vs. sends_61 b last t vs e) (sends_append b x ts us h)
+sends_append b last (t ∷ ts) us (inr e, h) =
     let x : Sent = again last t.sw2 in
-    first_then b last x t ts us (λ vs. sends-6c b last t vs e) (sends-append b x ts us h)
+    first_then b last x t ts us (λ vs. sends_6c b last t vs e) (sends_append b x ts us h)
 
 -- what was sent last: GET RESPONSE once 61xx came, and until then the command
 abbrev pub IsGetResponse : CommandBuilder → Sent → Type 0
-IsGetResponse b s = (xx : ℕ) × (s ≡ GetResponse (getResponse b.class xx))
+IsGetResponse b s = (xx : ℕ) × (s ≡ GetResponse (get_response b.class xx))
 
 abbrev pub IsCommand : CommandBuilder → Sent → Type 0
-IsCommand b s = (s ≡ Command b) ⊎ ((xx : ℕ) × (s ≡ Command (withLe b xx)))
+IsCommand b s = (s ≡ Command b) ⊎ ((xx : ℕ) × (s ≡ Command (with_le b xx)))
 
-last-by : (b : CommandBuilder) (last x : Sent) (t : Status) (ts : List Status) (P : Sent → Type 0)
-    → sendsAfter b last (t ∷ ts) ≡ x ∷ sendsAfter b x ts → P (last_of x (sendsAfter b x ts)) → P (last_of last (sendsAfter b last (t ∷ ts)))
-last-by b last x t ts P e h = rw e h
+last_by : (b : CommandBuilder) (last x : Sent) (t : Status) (ts : List Status) (P : Sent → Type 0)
+    → sends_after b last (t ∷ ts) ≡ x ∷ sends_after b x ts → P (last_of x (sends_after b x ts)) → P (last_of last (sends_after b last (t ∷ ts)))
+last_by b last x t ts P e h = rw e h
 
-stays-get-response : (b : CommandBuilder) (last : Sent) (ts : List Status) → IsGetResponse b last → Every Asks ts
-    → IsGetResponse b (last_of last (sendsAfter b last ts))
-unfolding sendsAfter
-stays-get-response b last [] g h = g
-stays-get-response b last (t ∷ ts) g (inl e, h) =
-    let x : Sent = GetResponse (getResponse b.class t.sw2) in
-    last-by b last x t ts (IsGetResponse b) (sends-61 b last t ts e) (stays-get-response b x ts (t.sw2, refl) h)
-stays-get-response b last (t ∷ ts) g (inr e, h) =
+stays_get_response : (b : CommandBuilder) (last : Sent) (ts : List Status) → IsGetResponse b last → Every Asks ts
+    → IsGetResponse b (last_of last (sends_after b last ts))
+unfolding sends_after
+stays_get_response b last [] g h = g
+stays_get_response b last (t ∷ ts) g (inl e, h) =
+    let x : Sent = GetResponse (get_response b.class t.sw2) in
+    last_by b last x t ts (IsGetResponse b) (sends_61 b last t ts e) (stays_get_response b x ts (t.sw2, refl) h)
+stays_get_response b last (t ∷ ts) g (inr e, h) =
     let x : Sent = again last t.sw2 in
-    last-by b last x t ts (IsGetResponse b) (sends-6c b last t ts e)
-    (stays-get-response b x ts (t.sw2, ap (λ s. again s t.sw2) g.1) h)
+    last_by b last x t ts (IsGetResponse b) (sends_6c b last t ts e)
+    (stays_get_response b x ts (t.sw2, ap (λ s. again s t.sw2) g.1) h)
 
-becomes-get-response : (b : CommandBuilder) (last : Sent) (ts : List Status) (a : Status) (us : List Status) → Every Asks ts
-    → a.sw1 ≡ 0x61 → Every Asks us → IsGetResponse b (last_of last (sendsAfter b last (ts ++ (a ∷ us))))
-becomes-get-response b last [] a us h e g =
-    let x : Sent = GetResponse (getResponse b.class a.sw2) in
-    last-by b last x a us (IsGetResponse b) (sends-61 b last a us e) (stays-get-response b x us (a.sw2, refl) g)
-becomes-get-response b last (t ∷ ts) a us (inl f, h) e g =
-    let x : Sent = GetResponse (getResponse b.class t.sw2) in
-    last-by b last x t (ts ++ (a ∷ us)) (IsGetResponse b) (sends-61 b last t (ts ++ (a ∷ us)) f) (becomes-get-response b x ts a us h e g)
-becomes-get-response b last (t ∷ ts) a us (inr f, h) e g =
+becomes_get_response : (b : CommandBuilder) (last : Sent) (ts : List Status) (a : Status) (us : List Status) → Every Asks ts
+    → a.sw1 ≡ 0x61 → Every Asks us → IsGetResponse b (last_of last (sends_after b last (ts ++ (a ∷ us))))
+becomes_get_response b last [] a us h e g =
+    let x : Sent = GetResponse (get_response b.class a.sw2) in
+    last_by b last x a us (IsGetResponse b) (sends_61 b last a us e) (stays_get_response b x us (a.sw2, refl) g)
+becomes_get_response b last (t ∷ ts) a us (inl f, h) e g =
+    let x : Sent = GetResponse (get_response b.class t.sw2) in
+    last_by b last x t (ts ++ (a ∷ us)) (IsGetResponse b) (sends_61 b last t (ts ++ (a ∷ us)) f) (becomes_get_response b x ts a us h e g)
+becomes_get_response b last (t ∷ ts) a us (inr f, h) e g =
     let x : Sent = again last t.sw2 in
-    last-by b last x t (ts ++ (a ∷ us)) (IsGetResponse b) (sends-6c b last t (ts ++ (a ∷ us)) f) (becomes-get-response b x ts a us h e g)
+    last_by b last x t (ts ++ (a ∷ us)) (IsGetResponse b) (sends_6c b last t (ts ++ (a ∷ us)) f) (becomes_get_response b x ts a us h e g)
 
-pub again-command : (b : CommandBuilder) (s : Sent) (xx : ℕ) → IsCommand b s → again s xx ≡ Command (withLe b xx)
-again-command b s xx (inl e) = ap (λ s. again s xx) e
-again-command b s xx (inr (y, e)) = ap (λ s. again s xx) e
+pub again_command : (b : CommandBuilder) (s : Sent) (xx : ℕ) → IsCommand b s → again s xx ≡ Command (with_le b xx)
+again_command b s xx (inl e) = ap (λ s. again s xx) e
+again_command b s xx (inr (y, e)) = ap (λ s. again s xx) e
 
-stays-command : (b : CommandBuilder) (last : Sent) (ts : List Status) → IsCommand b last → Every (λ t. t.sw1 ≡ 0x6C) ts
-    → IsCommand b (last_of last (sendsAfter b last ts))
-unfolding sendsAfter
-stays-command b last [] g h = g
-stays-command b last (t ∷ ts) g h =
+stays_command : (b : CommandBuilder) (last : Sent) (ts : List Status) → IsCommand b last → Every (λ t. t.sw1 ≡ 0x6C) ts
+    → IsCommand b (last_of last (sends_after b last ts))
+unfolding sends_after
+stays_command b last [] g h = g
+stays_command b last (t ∷ ts) g h =
     let x : Sent = again last t.sw2 in
-    last-by b last x t ts (IsCommand b) (sends-6c b last t ts h.0)
-    (stays-command b x ts (inr (t.sw2, again-command b last t.sw2 g)) h.1)
+    last_by b last x t ts (IsCommand b) (sends_6c b last t ts h.0)
+    (stays_command b x ts (inr (t.sw2, again_command b last t.sw2 g)) h.1)
 
 -- one more status, after those that ask for more
 one_more : (b : CommandBuilder) (ts : List Status) (t : Status) (x : Sent) → Every Asks ts
-    → sendsAfter b (last_of (Command b) (sends b ts)) (t ∷ []) ≡ x ∷ [] → sends b (ts ++ (t ∷ [])) ≡ sends b ts ++ (x ∷ [])
-one_more b ts t x h e = sends-append b (Command b) ts (t ∷ []) h ∙ ap (λ l. sends b ts ++ l) e
+    → sends_after b (last_of (Command b) (sends b ts)) (t ∷ []) ≡ x ∷ [] → sends b (ts ++ (t ∷ [])) ≡ sends b ts ++ (x ∷ [])
+one_more b ts t x h e = sends_append b (Command b) ts (t ∷ []) h ∙ ap (λ l. sends b ts ++ l) e
 
 -- the expected length xx, in both forms
-pub expected-by : (xx : ℕ) → expectedBy xx ≡ Ne (leAsked xx)
-expected-by zero = refl
-expected-by (suc n) = refl
+pub expected_by_lem : (xx : ℕ) → expected_by xx ≡ Ne (le_asked xx)
+expected_by_lem zero = refl
+expected_by_lem (suc n) = refl
 
 -- What the last of several statuses leads to, if those before it ask for more. After 61xx: GET RESPONSE, of the class
 -- of the command (rule 14.2). After 6Cxx: GET RESPONSE again if a 61xx came before, and else the command (rule 14.3).
 -- Both with Le xx. After any other: nothing more, whatever comes then (rule 14.4).
 module _ (b : CommandBuilder) (t : Status) where
-  get-response-sent : GetResponse (getResponse b.class t.sw2)
+  get_response_sent : GetResponse (get_response b.class t.sw2)
       ≡ GetResponse (record {
         class = b.class;
         instruction = 0xC0;
         p1 = 0;
         p2 = 0;
-        le = Ne (leAsked t.sw2);
+        le = Ne (le_asked t.sw2);
         mode = Unsupported;
       })
-  get-response-sent = rw (expected-by t.sw2)
+  get_response_sent = rw (expected_by_lem t.sw2)
 
-  pub sent-61 : (ts : List Status) → Every Asks ts → t.sw1 ≡ 0x61
+  pub sent_61 : (ts : List Status) → Every Asks ts → t.sw1 ≡ 0x61
       → sends b (ts ++ (t ∷ []))
       ≡ sends b ts ++ (GetResponse (record {
         class = b.class;
         instruction = 0xC0;
         p1 = 0;
         p2 = 0;
-        le = Ne (leAsked t.sw2);
+        le = Ne (le_asked t.sw2);
         mode = Unsupported;
       }) ∷ [])
-  unfolding sendsAfter
-  sent-61 ts h e =
-      one_more b ts t _ h (sends-61 b (last_of (Command b) (sends b ts)) t [] e ∙ ap (λ s. s ∷ []) get-response-sent)
+  unfolding sends_after
+  sent_61 ts h e =
+      one_more b ts t _ h (sends_61 b (last_of (Command b) (sends b ts)) t [] e ∙ ap (λ s. s ∷ []) get_response_sent)
 
-  pub sent-6c-command : (ts : List Status) → Every (λ t. t.sw1 ≡ 0x6C) ts → t.sw1 ≡ 0x6C
+  pub sent_6c_command : (ts : List Status) → Every (λ t. t.sw1 ≡ 0x6C) ts → t.sw1 ≡ 0x6C
       → sends b (ts ++ (t ∷ []))
       ≡ sends b ts ++ (Command (record {
         class = b.class;
         instruction = b.instruction;
         p1 = b.p1;
         p2 = b.p2;
-        le = Ne (leAsked t.sw2);
+        le = Ne (le_asked t.sw2);
         mode = b.mode;
       }) ∷ [])
-  unfolding sendsAfter
-  sent-6c-command ts h e =
+  unfolding sends_after
+  sent_6c_command ts h e =
       let last = last_of (Command b) (sends b ts) in
-      let same : again last t.sw2 ≡ Command (withLe b t.sw2) =
-      again-command b last t.sw2 (stays-command b (Command b) ts (inl refl) h) in
-      one_more b ts t _ (every-weaken Asks (λ t. t.sw1 ≡ 0x6C) ts (λ t e. inr e) h)
-      (sends-6c b last t [] e ∙ ap (λ s. s ∷ []) (same ∙ rw (expected-by t.sw2)))
+      let same : again last t.sw2 ≡ Command (with_le b t.sw2) =
+      again_command b last t.sw2 (stays_command b (Command b) ts (inl refl) h) in
+      one_more b ts t _ (every_weaken Asks (λ t. t.sw1 ≡ 0x6C) ts (λ t e. inr e) h)
+      (sends_6c b last t [] e ∙ ap (λ s. s ∷ []) (same ∙ rw (expected_by_lem t.sw2)))
 
-  pub sent-6c-get-response : (ts : List Status) (a : Status) (us : List Status) → Every Asks ts → a.sw1 ≡ 0x61 → Every Asks us
+  pub sent_6c_get_response : (ts : List Status) (a : Status) (us : List Status) → Every Asks ts → a.sw1 ≡ 0x61 → Every Asks us
       → t.sw1 ≡ 0x6C
       → sends b (ts ++ (a ∷ us) ++ (t ∷ []))
       ≡ sends b (ts ++ (a ∷ us)) ++ (GetResponse (record {
@@ -169,20 +169,20 @@ module _ (b : CommandBuilder) (t : Status) where
         instruction = 0xC0;
         p1 = 0;
         p2 = 0;
-        le = Ne (leAsked t.sw2);
+        le = Ne (le_asked t.sw2);
         mode = Unsupported;
       }) ∷ [])
-  unfolding sendsAfter
-  sent-6c-get-response ts a us h f g e =
+  unfolding sends_after
+  sent_6c_get_response ts a us h f g e =
       let before = ts ++ (a ∷ us) in
       let last = last_of (Command b) (sends b before) in
-      let is = becomes-get-response b (Command b) ts a us h f g in
+      let is = becomes_get_response b (Command b) ts a us h f g in
       one_more b before t _ (every_append Asks ts (a ∷ us) h (inl f, g))
-      (sends-6c b last t [] e ∙ ap (λ s. again s t.sw2 ∷ []) is.1 ∙ ap (λ s. s ∷ []) get-response-sent)
+      (sends_6c b last t [] e ∙ ap (λ s. again s t.sw2 ∷ []) is.1 ∙ ap (λ s. s ∷ []) get_response_sent)
 
-  pub sent-no-more : (ts us : List Status) → Every Asks ts → (t.sw1 ≡ 0x61 → ⊥) → (t.sw1 ≡ 0x6C → ⊥)
+  pub sent_no_more : (ts us : List Status) → Every Asks ts → (t.sw1 ≡ 0x61 → ⊥) → (t.sw1 ≡ 0x6C → ⊥)
       → sends b (ts ++ (t ∷ us)) ≡ sends b ts
-  sent-no-more ts us h f g =
-      sends-append b (Command b) ts (t ∷ us) h
-      ∙ ap (λ l. sends b ts ++ l) (sends-nothing b (last_of (Command b) (sends b ts)) t us f g)
+  sent_no_more ts us h f g =
+      sends_append b (Command b) ts (t ∷ us) h
+      ∙ ap (λ l. sends b ts ++ l) (sends_nothing b (last_of (Command b) (sends b ts)) t us f g)
       ∙ append-nil (sends b ts)

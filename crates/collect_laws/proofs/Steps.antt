@@ -6,35 +6,35 @@ use mathlib.Core.List.{List}
 use native.Mathlib.Omega.{arith}
 use lib.ListN.{length}
 use Rattle.basis.specs.Reply.{ok, refused}
-use Rattle.basis.specs.Over.{overAt}
-use Rattle.response.specs.Response.{data_of, statusOf, appendOf}
-use Rattle.response.proofs.Splitting.{data-length, append-22, append-23, append-ok}
-use Rattle.collect.specs.Collect.{next_of, goingBy, step_of, stepRoom}
+use Rattle.basis.specs.Over.{over_at}
+use Rattle.response.specs.Response.{data_of, status_of, append_of}
+use Rattle.response.proofs.Splitting.{data_length, append_22, append_23, append_ok}
+use Rattle.collect.specs.Collect.{next_of, going_by, step_of, step_room}
 use Rattle.collect.specs.declared.Collection.{Collection}
 
 module _ (c : Collection) (s : List ℕ) where
   -- 22: it has under two bytes, whatever is left of the room
-  pub refused-22 : (m : ℕ) → length s < 2 → step_of c s m ≡ refused 22
+  pub refused_22 : (m : ℕ) → length s < 2 → step_of c s m ≡ refused 22
   unfolding step_of
-  refused-22 m h = rw (append-22 s c.len m h)
+  refused_22 m h = rw (append_22 s c.len m h)
 
   -- 23: it has a status, and its data and those held exceed the room
-  pub refused-23 : (m : ℕ) → 2 ≤ length s → m < c.len + (length s - 2) → step_of c s m ≡ refused 23
+  pub refused_23 : (m : ℕ) → 2 ≤ length s → m < c.len + (length s - 2) → step_of c s m ≡ refused 23
   unfolding step_of
-  refused-23 m h g = rw (append-23 s c.len m h g)
+  refused_23 m h g = rw (append_23 s c.len m h g)
 
   -- else its data are held behind the others, whatever its status is
-  append-held : (m : ℕ) → 2 ≤ length s → c.len + length (data_of s) ≤ m
-      → appendOf s c.len m ≡ ok (record { len = c.len + length (data_of s); status = statusOf s })
-  append-held m h g = let e = data-length s in rw e (append-ok s c.len m h (omega arith))
+  append_held : (m : ℕ) → 2 ≤ length s → c.len + length (data_of s) ≤ m
+      → append_of s c.len m ≡ ok (record { len = c.len + length (data_of s); status = status_of s })
+  append_held m h g = let e = data_length s in rw e (append_ok s c.len m h (omega arith))
 
   pub held : (m : ℕ) → 2 ≤ length s → c.len + length (data_of s) ≤ m
       → step_of c s m
-      ≡ ok (goingBy (next_of c.sent (statusOf s)) (record { len = c.len + length (data_of s); status = statusOf s }))
+      ≡ ok (going_by (next_of c.sent (status_of s)) (record { len = c.len + length (data_of s); status = status_of s }))
   unfolding step_of
-  held m h g = rw (append-held m h g)
+  held m h g = rw (append_held m h g)
 
-  pub held-room : (room : List ℕ) → 2 ≤ length s → c.len + length (data_of s) ≤ length room
-      → stepRoom c s room ≡ overAt c.len (data_of s) room
-  unfolding stepRoom
-  held-room room h g = rw (append-held (length room) h g)
+  pub held_room : (room : List ℕ) → 2 ≤ length s → c.len + length (data_of s) ≤ length room
+      → step_room c s room ≡ over_at c.len (data_of s) room
+  unfolding step_room
+  held_room room h g = rw (append_held (length room) h g)

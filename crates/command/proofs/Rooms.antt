@@ -6,53 +6,53 @@ use mathlib.Core.List.{List}
 use borrow.Author.Tests.{lt-ltb, le-ltb}
 use lib.ListN.{length, take, drop}
 use Rattle.basis.specs.Reply.{ok, refused}
-use Rattle.basis.specs.Over.{over, overAt}
+use Rattle.basis.specs.Over.{over, over_at}
 use Rattle.class.specs.declared.Reading.{Reading}
 use Rattle.command.specs.Command.{parse}
-use Rattle.command.specs.Owned.{taken_of, refusedExtension, ownedOf, owned-is, extendOf, extend-from-command-view-is}
+use Rattle.command.specs.Owned.{taken_of, refused_extension, owned_of, OwnedIs, extend_of, ExtendFromCommandViewIs}
 use Rattle.command.specs.declared.CommandView.{CommandView}
 use Rattle.command.specs.declared.owned.Command.{Command}
 use Rattle.command.specs.declared.owned.Owned.TheVariants as owned
 use Rattle.command.specs.declared.owned.Extending.TheVariants as extending
 use Rattle.command.specs.declared.owned.Extended.{Extended}
-use Rattle.command.proofs.Parsing.{part-is-data}
+use Rattle.command.proofs.Parsing.{part_is_data}
 
 -- a copy: the command is refused, its data do not fit, or they stand at the beginning of the room
 module _ (r : Reading) (s room : List ℕ) where
-  pub not-read : (k : ℕ) → parse r s ≡ refused k → owned-is r s room (owned.Refused k) room
-  not-read k e = record { reply = rw e; buffer = rw e }
+  pub not_read : (k : ℕ) → parse r s ≡ refused k → OwnedIs r s room (owned.Refused k) room
+  not_read k e = record { reply = rw e; buffer = rw e }
 
-  pub too_long : (v : CommandView) → parse r s ≡ ok v → length room < v.len → owned-is r s room (owned.Refused 2) room
-  unfolding ownedOf
+  pub too_long : (v : CommandView) → parse r s ≡ ok v → length room < v.len → OwnedIs r s room (owned.Refused 2) room
+  unfolding owned_of
   too_long v e h = record { reply = rw (e, lt-ltb (length room) v.len h); buffer = rw (e, lt-ltb (length room) v.len h) }
 
   pub copy : (v : CommandView) (c : Command) (after : List ℕ) → parse r s ≡ ok v → v.len ≤ length room → c ≡ taken_of v v.len v.extended
-      → after ≡ over (take (v.at + v.len - v.at) (drop v.at s)) room → owned-is r s room (owned.Command c) after
-  unfolding ownedOf
+      → after ≡ over (take (v.at + v.len - v.at) (drop v.at s)) room → OwnedIs r s room (owned.Command c) after
+  unfolding owned_of
   copy v c after e h f g =
       record {
         reply = rw (e, le-ltb (length room) v.len h, f);
-        buffer = g ∙ rw (part-is-data r s v e, e, le-ltb (length room) v.len h);
+        buffer = g ∙ rw (part_is_data r s v e, e, le-ltb (length room) v.len h);
       }
 
 -- held and new data that fit a room, and that exceed it
-pub extend-ok : (held n m : ℕ) → held + n ≤ m → extendOf held n m ≡ ok (held + n)
-unfolding extendOf
-extend-ok held n m h = rw (le-ltb m (held + n) h)
+pub extend_ok : (held n m : ℕ) → held + n ≤ m → extend_of held n m ≡ ok (held + n)
+unfolding extend_of
+extend_ok held n m h = rw (le-ltb m (held + n) h)
 
-pub extend-refused : (held n m : ℕ) → m < held + n → extendOf held n m ≡ refused 18
-unfolding extendOf
-extend-refused held n m h = rw (lt-ltb m (held + n) h)
+pub extend_refused : (held n m : ℕ) → m < held + n → extend_of held n m ≡ refused 18
+unfolding extend_of
+extend_refused held n m h = rw (lt-ltb m (held + n) h)
 
 -- an extension: the new data do not fit, or stand after those held
 module _ (c : Command) (v : CommandView) (d room : List ℕ) where
-  pub no_room : (x : Extended) → length room < c.len + length d → x ≡ refusedExtension v c.len → extend-from-command-view-is c v d room x room
-  unfolding extendOf
+  pub no_room : (x : Extended) → length room < c.len + length d → x ≡ refused_extension v c.len → ExtendFromCommandViewIs c v d room x room
+  unfolding extend_of
   no_room x h e =
       let f = lt-ltb (length room) (c.len + length d) h in record { reply = rw (e, f); command = rw (e, f); buffer = rw f }
 
   pub extended : (y : Command) (after : List ℕ) → c.len + length d ≤ length room → y ≡ taken_of v (c.len + length d) true
-      → after ≡ overAt c.len d room → extend-from-command-view-is c v d room (record { answer = extending.Done; command = y }) after
-  unfolding extendOf
+      → after ≡ over_at c.len d room → ExtendFromCommandViewIs c v d room (record { answer = extending.Done; command = y }) after
+  unfolding extend_of
   extended y after h e g =
       let f = le-ltb (length room) (c.len + length d) h in record { reply = rw f; command = rw f e; buffer = rw f g }

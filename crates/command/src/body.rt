@@ -1,7 +1,7 @@
 // Reading the body of a command: where its data start, how many bytes they are, and Le. Rules 2.3 to 2.7.
 // Ported, with changes, from src/command.rs of the crate iso7816 0.2.2 (see NOTICE).
 ghost use Rattle.std.specs.Prelude.{◌≡◌, ◌<◌, ◌≤◌, length};
-ghost use Rattle.command.specs.Body.{lengths, orMost, shortBody, longBody, extendedBody, extendedByStandard, body_of, asReply};
+ghost use Rattle.command.specs.Body.{lengths, or_most, short_body, long_body, extended_body, extended_by_standard, body_of, as_reply};
 
 use class::Reading;
 
@@ -30,14 +30,14 @@ fn byte_number(b: u8) -> usize
 
 // A value, or its replacement if it is zero: in an Le, zero means the most (rules 2.3 to 2.6).
 fn replace_zero(value: usize, replacement: usize) -> usize
-    ensures { result ≡ orMost replacement value }
+    ensures { result ≡ or_most replacement value }
 {
     if value == 0 { replacement } else { value }
 }
 
 // The answer with these lengths.
 fn lengths(offset: usize, lc: usize, le: usize, extended: bool) -> ParseLengths
-    ensures { asReply result ≡ lengths offset lc le extended }
+    ensures { as_reply result ≡ lengths offset lc le extended }
 {
     ParseLengths::Lengths(ParsedLengths {
         offset,
@@ -50,7 +50,7 @@ fn lengths(offset: usize, lc: usize, le: usize, extended: bool) -> ParseLengths
 // A body whose first byte n is not 0: n data bytes, alone or with an Le byte after them; else 4 (rule 2.4).
 fn short_lengths(n: usize, body: &[u8]) -> ParseLengths
     requires { n < 256 }
-    ensures { asReply result ≡ shortBody n body.now }
+    ensures { as_reply result ≡ short_body n body.now }
 {
     let l = body.len();
     if l == 1 + n {
@@ -66,7 +66,7 @@ fn short_lengths(n: usize, body: &[u8]) -> ParseLengths
 // of Le after them; else 5 (rule 2.6).
 fn long_lengths(n: usize, body: &[u8]) -> ParseLengths
     requires { n < 65536 }
-    ensures { asReply result ≡ longBody n body.now }
+    ensures { as_reply result ≡ long_body n body.now }
 {
     let l = body.len();
     if l == 3 + n {
@@ -84,7 +84,7 @@ fn long_lengths(n: usize, body: &[u8]) -> ParseLengths
 // number in the second and third byte (rules 2.5 and 2.6).
 fn extended_lengths(body: &[u8]) -> ParseLengths
     requires { 2 ≤ length body.now }
-    ensures { asReply result ≡ extendedBody body.now }
+    ensures { as_reply result ≡ extended_body body.now }
 {
     let l = body.len();
     if l == 2 {
@@ -100,7 +100,7 @@ fn extended_lengths(body: &[u8]) -> ParseLengths
 // The same in the standard reading, which refuses an Lc of zero with Le after it: 21 (rule 2.7).
 fn extended_by_standard(body: &[u8]) -> ParseLengths
     requires { 2 ≤ length body.now }
-    ensures { asReply result ≡ extendedByStandard body.now }
+    ensures { as_reply result ≡ extended_by_standard body.now }
 {
     if body.len() != 5 {
         return extended_lengths(body);
@@ -113,7 +113,7 @@ fn extended_by_standard(body: &[u8]) -> ParseLengths
 
 // The lengths of a body: all zero for no byte, Le for one byte (rule 2.3), else by its first byte and the reading.
 pub(crate) fn parse_lengths(reading: Reading, body: &[u8]) -> ParseLengths
-    ensures { asReply result ≡ body_of reading body.now }
+    ensures { as_reply result ≡ body_of reading body.now }
 {
     let l = body.len();
     if l == 0 {

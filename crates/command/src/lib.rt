@@ -2,7 +2,7 @@
 // body.rt reads the lengths of the body, owned.rt makes owned copies.
 // Ported, with changes, from src/command.rs of the crate iso7816 0.2.2 (see NOTICE).
 ghost use Rattle.std.specs.Prelude.{◌≡◌, ◌≤◌, length};
-ghost use Rattle.command.specs.Command.{parseBody, asReply, try-from-is, data_is};
+ghost use Rattle.command.specs.Command.{parse_body, as_reply, TryFromIs, DataIs};
 
 mod body;
 mod owned;
@@ -36,7 +36,7 @@ pub enum Parsed {
 // part of the command that starts after byte four (rules 2.1, 2.2 and 12.7).
 fn parse_body(reading: Reading, apdu: &[u8], class: Class) -> Parsed
     requires { 4 ≤ length apdu.now }
-    ensures { asReply result ≡ parseBody reading apdu.now class }
+    ensures { as_reply result ≡ parse_body reading apdu.now class }
 {
     match body::parse_lengths(reading, &apdu[4..]) {
         ParseLengths::Refused(k) => Parsed::Refused(k),
@@ -56,7 +56,7 @@ fn parse_body(reading: Reading, apdu: &[u8], class: Class) -> Parsed
 impl CommandView {
     // Reads a command: 1 if it has under four bytes, 3 for the class byte 0xFF, else by its body (rules 1.1 and 1.3).
     pub fn try_from(reading: Reading, apdu: &[u8]) -> Parsed
-        ensures { try-from-is reading apdu.now result }
+        ensures { TryFromIs reading apdu.now result }
     {
         if apdu.len() < 4 {
             return Parsed::Refused(1);
@@ -70,7 +70,7 @@ impl CommandView {
 
 // The data of a command, as that very part of its bytes; no bytes if it is refused (rule 2.8).
 pub fn data<'a>(reading: Reading, apdu: &'a [u8]) -> &'a [u8]
-    ensures { data_is reading apdu.now result.now }
+    ensures { DataIs reading apdu.now result.now }
 {
     match CommandView::try_from(reading, apdu) {
         Parsed::Refused(_) => &apdu[..0],

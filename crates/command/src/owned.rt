@@ -2,7 +2,7 @@
 // Rules 2.9 and 2.10.
 // Ported, with changes, from src/command.rs of the crate iso7816 0.2.2 (see NOTICE).
 ghost use Rattle.std.specs.Prelude.{◌≡◌};
-ghost use Rattle.command.specs.Owned.{taken_of, refusedExtension, owned-is, extend-from-command-view-is};
+ghost use Rattle.command.specs.Owned.{taken_of, refused_extension, OwnedIs, ExtendFromCommandViewIs};
 
 use crate::{CommandView, Parsed};
 use class::{Class, Reading};
@@ -59,7 +59,7 @@ fn taken(view: CommandView, len: usize, extended: bool) -> Command
 impl Command {
     // Reads a command and copies its data to the beginning of a room. Bytes past them stay (rule 2.9).
     pub fn try_from(reading: Reading, apdu: &[u8], room: &mut [u8]) -> Owned
-        ensures { owned-is reading apdu.now room.old result room.new }
+        ensures { OwnedIs reading apdu.now room.old result room.new }
     {
         match CommandView::try_from(reading, apdu) {
             Parsed::Refused(k) => Owned::Refused(k),
@@ -84,7 +84,7 @@ impl Command {
         data: &[u8],
         room: &mut [u8],
     ) -> Extended
-        ensures { extend-from-command-view-is self view «data».now room.old result room.new }
+        ensures { ExtendFromCommandViewIs self view «data».now room.old result room.new }
     {
         let held = self.len;
         let n = data.len();
@@ -104,7 +104,7 @@ impl Command {
 
 // The new data do not fit: header, expected length and flag are the new ones, the held data stay (rule 1.26).
 fn refused_extension(view: CommandView, held: usize) -> Extended
-    ensures { result ≡ refusedExtension view held }
+    ensures { result ≡ refused_extension view held }
 {
     Extended {
         answer: Extending::Refused(18),

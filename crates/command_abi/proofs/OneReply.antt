@@ -2,7 +2,7 @@
 use Prim.Native.Nat.{ℕ}
 use mathlib.Core.List.{List}
 use Rattle.abi.proofs.OneReply.{One, one}
-use Rattle.command_abi.specs.Numbers.{commandReply}
+use Rattle.command_abi.specs.Numbers.{command_reply}
 
-pub gorvisclen-command : (n : ℕ) (s : List ℕ) → One 8 (commandReply n s)
-gorvisclen-command n s = one 8 (commandReply n s)
+pub gorvisclen_command : (n : ℕ) (s : List ℕ) → One 8 (command_reply n s)
+gorvisclen_command n s = one 8 (command_reply n s)

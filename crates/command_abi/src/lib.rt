@@ -1,7 +1,7 @@
 // What a host program calls to read a command: its numbers (rule 12.6). The function replies 0, or the number of a
 // refusal, and writes the numbers into the slice `out` only if it replies 0.
 ghost use Rattle.abi.specs.Answers.{NumbersWritten};
-ghost use Rattle.command_abi.specs.Numbers.{viewNumbers, commandReply};
+ghost use Rattle.command_abi.specs.Numbers.{view_numbers, command_reply};
 ghost use Rattle.std.specs.Prelude.{◌≡◌};
 
 use abi::{class_reading_by_number, flag, refusal_status, write_numbers};
@@ -9,7 +9,7 @@ use command::{CommandView, Parsed};
 
 // The row of numbers of a command that was read.
 fn view_numbers(view: CommandView) -> [u64; 8]
-    ensures { result ≡ viewNumbers view }
+    ensures { result ≡ view_numbers view }
 {
     let class = view.class;
     [
@@ -27,7 +27,7 @@ fn view_numbers(view: CommandView) -> [u64; 8]
 // Writes 8 numbers for the host: class, instruction, P1, P2, place and length of the data, expected length, extended.
 #[unsafe(no_mangle)]
 pub extern "C" fn gorvisclen_command(reading: u8, apdu: &[u8], out: &mut [u64]) -> u8
-    ensures { NumbersWritten 8 (commandReply reading apdu.now) out.old result out.new }
+    ensures { NumbersWritten 8 (command_reply reading apdu.now) out.old result out.new }
 {
     match CommandView::try_from(class_reading_by_number(reading), apdu) {
         Parsed::Refused(k) => refusal_status(k, out.len(), 8),

@@ -1,6 +1,6 @@
 -- Laws of copies for the host.
---   owned-short, owned-no, owned-row, extends (LentSlices): what each case leaves in the lent slices.
---   gorvisclen-command-data, gorvisclen-command-owned, gorvisclen-command-extend (OneReply): each promise allows one
+--   owned_short, owned-no, owned_row, extends (LentSlices): what each case leaves in the lent slices.
+--   gorvisclen_command_data, gorvisclen_command_owned, gorvisclen_command_extend (OneReply): each promise allows one
 --     reply and one content of the lent slices.
 pub mod LentSlices
 pub mod OneReply

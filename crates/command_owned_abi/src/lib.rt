@@ -3,9 +3,9 @@
 ghost use Rattle.std.specs.Prelude.{◌≡◌, ◌≤◌, length};
 ghost use Rattle.basis.specs.Reply.{status, then};
 ghost use Rattle.command.specs.Command.{parse};
-ghost use Rattle.command.specs.Owned.{ownedOf, extendingAsReply};
-ghost use Rattle.abi.specs.Answers.{tooShort};
-ghost use Rattle.abi.specs.Readings.{classReadingByNumber};
+ghost use Rattle.command.specs.Owned.{owned_of, extending_as_reply};
+ghost use Rattle.abi.specs.Answers.{too_short};
+ghost use Rattle.abi.specs.Readings.{class_reading_by_number};
 ghost use Rattle.command_owned_abi.specs.Copies.{DataCopied, OwnedCopied, Extends, Extended};
 
 use abi::{
@@ -34,7 +34,7 @@ pub extern "C" fn gorvisclen_command_data(
 
 // The reply if `out` is too short for the numbers of an owned copy: what reading or copying refuses, else 16.
 fn short_owned(reading: Reading, apdu: &[u8], room: usize) -> u8
-    ensures { result ≡ status (tooShort (then (parse reading apdu.now) (ownedOf room))) }
+    ensures { result ≡ status (too_short (then (parse reading apdu.now) (owned_of room))) }
 {
     match CommandView::try_from(reading, apdu) {
         Parsed::Refused(k) => refusal_status(k, 0, 7),
@@ -55,7 +55,7 @@ pub extern "C" fn gorvisclen_command_owned(
     room: &mut [u8],
     out: &mut [u64],
 ) -> u8
-    ensures { OwnedCopied (classReadingByNumber reading) apdu.now room.old out.old result
+    ensures { OwnedCopied (class_reading_by_number reading) apdu.now room.old out.old result
         room.new out.new }
 {
     let chosen = class_reading_by_number(reading);
@@ -73,7 +73,7 @@ pub extern "C" fn gorvisclen_command_owned(
 
 // The reply of an extension: 0 or the refusal.
 fn extending_number(answer: Extending) -> u8
-    ensures { result ≡ status (extendingAsReply answer) }
+    ensures { result ≡ status (extending_as_reply answer) }
 {
     match answer {
         Extending::Done => 0,

@@ -2,11 +2,11 @@
 use Rattle.std.specs.Prelude.{ℕ, ◌≡◌, List, [], ◌∷◌, map, length, replicate}
 use Rattle.std.proofs.Math.Option.{Option, none, some}
 use Rattle.basis.specs.Reply.{Reply, ok, refused, then}
-use Rattle.class.specs.Channel.{channelOf}
+use Rattle.class.specs.Channel.{channel_of}
 use Rattle.class.specs.declared.Reading.{Reading}
 use Rattle.class.specs.declared.Reading.TheVariants.{Crate, Standard}
-use Rattle.aid.specs.Making.{tryNew}
-use Rattle.tlv.specs.Tag.{tagAlone}
+use Rattle.aid.specs.Making.{try_new}
+use Rattle.tlv.specs.Tag.{tag_alone}
 use Rattle.tlv.specs.Len.{len_of}
 use Rattle.tlv.specs.declared.Reading.{Reading as TlvReading}
 use Rattle.tlv.specs.declared.Reading.TheVariants as tlv
@@ -31,17 +31,17 @@ number_in none = []
 number_in (some n) = n ∷ []
 
 -- how many data bytes a part has
-abbrev pub dataLength : Part → ℕ
-dataLength p = length p.«data»
+abbrev pub data_length : Part → ℕ
+data_length p = length p.«data»
 
 -- what the definitions answer: a refusal, or numbers. Of a body: Lc and Le. Of a cut: the data bytes of each part
-abbrev pub answerTo : Question → Reply (List ℕ)
-answerTo (body r s) = then (body_of r s) (λ b. ok (b.lc ∷ b.le ∷ []))
-answerTo (tag r s) = then (tagAlone r s) (λ t. ok (t.number ∷ []))
-answerTo (len r s) = then (len_of r s) (λ n. ok (n.number ∷ []))
-answerTo (channel r c) = ok (number_in (channelOf r c))
-answerTo (cut n e m) = ok (map dataLength (parts (short_of 0 0 0 0 e) (replicate n 0) m))
-answerTo (aid s) = then (tryNew s (length s)) (λ a. ok (a.len ∷ []))
+abbrev pub answer_to : Question → Reply (List ℕ)
+answer_to (body r s) = then (body_of r s) (λ b. ok (b.lc ∷ b.le ∷ []))
+answer_to (tag r s) = then (tag_alone r s) (λ t. ok (t.number ∷ []))
+answer_to (len r s) = then (len_of r s) (λ n. ok (n.number ∷ []))
+answer_to (channel r c) = ok (number_in (channel_of r c))
+answer_to (cut n e m) = ok (map data_length (parts (short_of 0 0 0 0 e) (replicate n 0) m))
+answer_to (aid s) = then (try_new s (length s)) (λ a. ok (a.len ∷ []))
 
 -- a case, by its number
 pub record Row : Type 0 where
@@ -82,7 +82,7 @@ table =
 
 -- the definitions answer what the row says
 abbrev pub Answered : Row → Type 0
-Answered r = answerTo r.question ≡ r.answer
+Answered r = answer_to r.question ≡ r.answer
 
 -- the statement: they answer what every row says
 abbrev pub TableHolds : Type 0

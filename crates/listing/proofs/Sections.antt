@@ -7,7 +7,7 @@ use native.Mathlib.Omega.{arith}
 use lib.ListN.{length, get_or, take, drop}
 use lib.Seq.{get_or-drop, drop-drop}
 use Rattle.basis.specs.Number.{Bytes}
-use Rattle.listing.specs.Input.{pair, items, itemsSize, itemsAt, sectionSize}
+use Rattle.listing.specs.Input.{pair, items, items_size, items_at, section_size}
 
 -- two bytes at a place
 pub pair_is : (s : List ℕ) (at : ℕ) → get_or s at 0 * 256 + get_or s (at + 1) 0 ≡ pair (drop at s)
@@ -15,50 +15,50 @@ unfolding pair
 pair_is s at = let z : at + 0 ≡ at = omega arith in rw (get_or-drop at s 0 0, get_or-drop at s 1 0, z)
 
 -- no item left
-pub size_none : (s : List ℕ) (left : ℕ) → left ≡ 0 → itemsSize left s ≡ 0
-unfolding itemsSize
+pub size_none : (s : List ℕ) (left : ℕ) → left ≡ 0 → items_size left s ≡ 0
+unfolding items_size
 size_none s zero h = refl
 size_none s (suc left) h = absurd (omega arith)
 
-pub items-none : (s : List ℕ) (left : ℕ) → left ≡ 0 → items left s ≡ []
+pub items_none : (s : List ℕ) (left : ℕ) → left ≡ 0 → items left s ≡ []
 unfolding items
-items-none s zero h = refl
-items-none s (suc left) h = absurd (omega arith)
+items_none s zero h = refl
+items_none s (suc left) h = absurd (omega arith)
 
 -- an item of n bytes at a place, and those after it
 module _ (s : List ℕ) (at n : ℕ) (e : n ≡ pair (drop at s)) where
-  after-item : drop (2 + pair (drop at s)) (drop at s) ≡ drop (at + 2 + n) s
-  after-item = rw e (drop-drop (2 + pair (drop at s)) at s ∙ ap (λ (i : ℕ). drop i s) (sym (add_assoc at 2 (pair (drop at s)))))
+  after_item : drop (2 + pair (drop at s)) (drop at s) ≡ drop (at + 2 + n) s
+  after_item = rw e (drop-drop (2 + pair (drop at s)) at s ∙ ap (λ (i : ℕ). drop i s) (sym (add_assoc at 2 (pair (drop at s)))))
 
-  pub size-next : (left : ℕ) → (left ≡ 0 → ⊥) → at + itemsSize left (drop at s) ≡ at + 2 + n + itemsSize (left - 1) (drop (at + 2 + n) s)
-  unfolding itemsSize
-  size-next zero h = absurd (h refl)
-  size-next (suc left) h = let z : suc left - 1 ≡ left = omega arith in rw (after-item, z) (omega arith)
+  pub size_next : (left : ℕ) → (left ≡ 0 → ⊥) → at + items_size left (drop at s) ≡ at + 2 + n + items_size (left - 1) (drop (at + 2 + n) s)
+  unfolding items_size
+  size_next zero h = absurd (h refl)
+  size_next (suc left) h = let z : suc left - 1 ≡ left = omega arith in rw (after_item, z) (omega arith)
 
-  pub items-next : (left : ℕ) → (left ≡ 0 → ⊥)
+  pub items_next : (left : ℕ) → (left ≡ 0 → ⊥)
       → items left (drop at s) ≡ take (at + 2 + n - (at + 2)) (drop (at + 2) s) ∷ items (left - 1) (drop (at + 2 + n) s)
   unfolding items
-  items-next zero h = absurd (h refl)
-  items-next (suc left) h =
-      let z : suc left - 1 ≡ left = omega arith in rw (after-item, z, add-sub_cancel_left (at + 2) n, e, drop-drop 2 at s)
+  items_next zero h = absurd (h refl)
+  items_next (suc left) h =
+      let z : suc left - 1 ≡ left = omega arith in rw (after_item, z, add-sub_cancel_left (at + 2) n, e, drop-drop 2 at s)
 
 -- a section at a place: its count n, its items, of which there are as many as the count says, and its size
 module _ (s : List ℕ) (at n : ℕ) (e : n ≡ pair (drop at s)) where
-  pub section-is : at + sectionSize (drop at s) ≡ at + 2 + itemsSize n (drop (at + 2) s)
-  unfolding sectionSize
-  section-is = rw (e, drop-drop 2 at s) (omega arith)
+  pub section_is : at + section_size (drop at s) ≡ at + 2 + items_size n (drop (at + 2) s)
+  unfolding section_size
+  section_is = rw (e, drop-drop 2 at s) (omega arith)
 
-  pub items-are : itemsAt (drop at s) ≡ items n (drop (at + 2) s)
-  unfolding itemsAt
-  items-are = rw (e, drop-drop 2 at s)
+  pub items_are : items_at (drop at s) ≡ items n (drop (at + 2) s)
+  unfolding items_at
+  items_are = rw (e, drop-drop 2 at s)
 
-pub items-counted : (n : ℕ) (s : List ℕ) → length (items n s) ≡ n
+pub items_counted : (n : ℕ) (s : List ℕ) → length (items n s) ≡ n
 unfolding items
-items-counted zero s = refl
-items-counted (suc n) s = ap suc (items-counted n (drop (2 + pair s) s))
+items_counted zero s = refl
+items_counted (suc n) s = ap suc (items_counted n (drop (2 + pair s) s))
 
 -- each item takes the two bytes of its length
-pub items-size-least : (n : ℕ) (s : List ℕ) → 2 * n ≤ itemsSize n s
-unfolding itemsSize
-items-size-least zero s = omega arith
-items-size-least (suc n) s = omega (arith, items-size-least n (drop (2 + pair s) s))
+pub items_size_least : (n : ℕ) (s : List ℕ) → 2 * n ≤ items_size n s
+unfolding items_size
+items_size_least zero s = omega arith
+items_size_least (suc n) s = omega (arith, items_size_least n (drop (2 + pair s) s))

@@ -12,19 +12,19 @@ items zero s = []
 items (suc k) s = take (pair s) (drop 2 s) ∷ items k (drop (2 + pair s) s)
 
 -- how many bytes the first k items take with their lengths
-unfoldable pub itemsSize : ℕ → List ℕ → ℕ
-itemsSize zero s = 0
-itemsSize (suc k) s = 2 + pair s + itemsSize k (drop (2 + pair s) s)
+unfoldable pub items_size : ℕ → List ℕ → ℕ
+items_size zero s = 0
+items_size (suc k) s = 2 + pair s + items_size k (drop (2 + pair s) s)
 
 -- the items of the section at the front, as many as its count says (rule 10.1)
-unfoldable pub itemsAt : List ℕ → List (List ℕ)
-itemsAt s = items (pair s) (drop 2 s)
+unfoldable pub items_at : List ℕ → List (List ℕ)
+items_at s = items (pair s) (drop 2 s)
 
 -- how many bytes the section at the front takes with its count
-unfoldable pub sectionSize : List ℕ → ℕ
-sectionSize s = 2 + itemsSize (pair s) (drop 2 s)
+unfoldable pub section_size : List ℕ → ℕ
+section_size s = 2 + items_size (pair s) (drop 2 s)
 
 -- an input is well-formed if it has at most 60,000 bytes, and two sections take all of them (rules 10.1 and 10.2). A
 -- section that runs past the end takes more
-unfoldable pub wellFormed : List ℕ → Bool
-wellFormed s = cond (leb (length s) 60000) (eqb (sectionSize s + sectionSize (drop (sectionSize s) s)) (length s)) false
+unfoldable pub well_formed : List ℕ → Bool
+well_formed s = cond (leb (length s) 60000) (eqb (section_size s + section_size (drop (section_size s) s)) (length s)) false

@@ -1,7 +1,7 @@
 // The lines of commands and records (rules 10.3 to 10.8).
 ghost use Rattle.std.specs.Prelude.{◌≡◌, ◌+◌, ◌≤◌, ◌<◌, length, drop};
-ghost use Rattle.listing.specs.Input.{items, itemsSize, itemsAt, sectionSize};
-ghost use Rattle.listing.specs.Text.{Puts, lineNumbers, commandLine, objectLine, objectLines, itemText, itemsText, headLine, sectionText};
+ghost use Rattle.listing.specs.Input.{items, items_size, items_at, section_size};
+ghost use Rattle.listing.specs.Text.{Puts, line_numbers, command_line, object_line, object_lines, item_text, items_text, head_line, section_text};
 
 use crate::input::{byte_number, pair_at};
 use crate::text::fill;
@@ -18,7 +18,7 @@ pub enum Section {
 
 // The numbers in the line of a command.
 fn line_numbers(k: usize, view: CommandView) -> [usize; 7]
-    ensures { result ≡ lineNumbers k view }
+    ensures { result ≡ line_numbers k view }
 {
     let class = view.class;
     [
@@ -34,8 +34,8 @@ fn line_numbers(k: usize, view: CommandView) -> [usize; 7]
 
 // Writes the line of command k, which is parsed in the crate reading (rule 10.4).
 fn command_line(out: &mut [u8], at: usize, k: usize, apdu: &[u8]) -> usize
-    requires { at + length (commandLine k apdu.now) ≤ length out.old }
-    ensures { Puts (commandLine k apdu.now) at out.old result out.new }
+    requires { at + length (command_line k apdu.now) ≤ length out.old }
+    ensures { Puts (command_line k apdu.now) at out.old result out.new }
 {
     match CommandView::try_from(Reading::Crate, apdu) {
         Parsed::Refused(r) => fill(out, at, b"% refused %\n", &[k, byte_number(r)]),
@@ -51,8 +51,8 @@ fn command_line(out: &mut [u8], at: usize, k: usize, apdu: &[u8]) -> usize
 
 // Writes the line of object j of record k: its tag in one byte, two or three, and its length (rule 10.5).
 fn object_line(out: &mut [u8], at: usize, k: usize, j: usize, tag: u32, len: usize) -> usize
-    requires { at + length (objectLine k j tag len) ≤ length out.old }
-    ensures { Puts (objectLine k j tag len) at out.old result out.new }
+    requires { at + length (object_line k j tag len) ≤ length out.old }
+    ensures { Puts (object_line k j tag len) at out.old result out.new }
 {
     let t = tag as usize;
     if t < 256 {
@@ -67,8 +67,8 @@ fn object_line(out: &mut [u8], at: usize, k: usize, j: usize, tag: u32, len: usi
 // Writes the lines of record k: its objects of the top level, in the crate reading (rule 10.6). The record stops at its
 // first refusal: 12 is its last line, with its place in the record (rule 10.7), 11 prints nothing (rule 10.8).
 fn put_objects(out: &mut [u8], start: usize, k: usize, record: &[u8]) -> usize
-    requires { start + length (objectLines k «record».now) ≤ length out.old }
-    ensures { Puts (objectLines k «record».now) start out.old result out.new }
+    requires { start + length (object_lines k «record».now) ≤ length out.old }
+    ensures { Puts (object_lines k «record».now) start out.old result out.new }
 {
     let mut place = start;
     let mut at = 0;
@@ -92,8 +92,8 @@ fn put_objects(out: &mut [u8], start: usize, k: usize, record: &[u8]) -> usize
 
 // Writes the line or the lines of item k of a section.
 fn put_item(out: &mut [u8], at: usize, section: Section, k: usize, item: &[u8]) -> usize
-    requires { at + length (itemText section k item.now) ≤ length out.old }
-    ensures { Puts (itemText section k item.now) at out.old result out.new }
+    requires { at + length (item_text section k item.now) ≤ length out.old }
+    ensures { Puts (item_text section k item.now) at out.old result out.new }
 {
     match section {
         Section::Commands => command_line(out, at, k, item),
@@ -110,9 +110,9 @@ fn put_items(
     from: usize,
     count: usize,
 ) -> usize
-    requires count_bound { (count < 65536) × (from + itemsSize count (drop from input.now) ≤ length input.now) }
-    requires input_len_bound { (length input.now ≤ 60000) × (start + length (itemsText section 1 (items count (drop from input.now))) ≤ length out.old) }
-    ensures { Puts (itemsText section 1 (items count (drop from input.now))) start out.old result out.new }
+    requires count_bound { (count < 65536) × (from + items_size count (drop from input.now) ≤ length input.now) }
+    requires input_len_bound { (length input.now ≤ 60000) × (start + length (items_text section 1 (items count (drop from input.now))) ≤ length out.old) }
+    ensures { Puts (items_text section 1 (items count (drop from input.now))) start out.old result out.new }
 {
     let mut place = start;
     let mut at = from;
@@ -131,8 +131,8 @@ fn put_items(
 
 // Writes the first line of a section: its word and its count (rule 10.3).
 fn put_head(out: &mut [u8], at: usize, section: Section, n: usize) -> usize
-    requires { at + length (headLine section n) ≤ length out.old }
-    ensures { Puts (headLine section n) at out.old result out.new }
+    requires { at + length (head_line section n) ≤ length out.old }
+    ensures { Puts (head_line section n) at out.old result out.new }
 {
     match section {
         Section::Commands => fill(out, at, b"commands %\n", &[n]),
@@ -148,9 +148,9 @@ pub(crate) fn put_section(
     input: &[u8],
     from: usize,
 ) -> usize
-    requires input_len_bound { (length input.now ≤ 60000) × (from + sectionSize (drop from input.now) ≤ length input.now) }
-    requires input_in_bounds { at + length (sectionText section (itemsAt (drop from input.now))) ≤ length out.old }
-    ensures { Puts (sectionText section (itemsAt (drop from input.now))) at out.old result out.new }
+    requires input_len_bound { (length input.now ≤ 60000) × (from + section_size (drop from input.now) ≤ length input.now) }
+    requires input_in_bounds { at + length (section_text section (items_at (drop from input.now))) ≤ length out.old }
+    ensures { Puts (section_text section (items_at (drop from input.now))) at out.old result out.new }
 {
     let n = pair_at(input, from);
     let end = put_head(out, at, section, n);

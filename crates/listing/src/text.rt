@@ -1,6 +1,6 @@
 // Text written into a lent buffer from a place. Each function returns the place after what it wrote.
 ghost use Rattle.std.specs.Prelude.{◌≡◌, [], ◌∷◌, ◌+◌, ◌≤◌, ◌<◌, length, get_or};
-ghost use Rattle.listing.specs.Text.{Puts, decimal, hexDigit, hex, takesNumber, formText, filled};
+ghost use Rattle.listing.specs.Text.{Puts, decimal, hex_digit, hex, takes_number, form_text, filled};
 
 // Writes one character.
 fn put_byte(out: &mut [u8], at: usize, b: u8) -> usize
@@ -14,7 +14,7 @@ fn put_byte(out: &mut [u8], at: usize, b: u8) -> usize
 // The character of a digit below 16: 0 to 9, A to F (rule 10.9).
 fn hex_digit(d: usize) -> u8
     requires { d < 16 }
-    ensures { result ≡ hexDigit d }
+    ensures { result ≡ hex_digit d }
 {
     if d < 10 {
         return 48 + d as u8;
@@ -45,7 +45,7 @@ fn put_hex(out: &mut [u8], at: usize, n: usize) -> usize
 
 // How many numbers a character of a form takes: 1 for % and #, else 0.
 fn takes_number(c: u8) -> usize
-    ensures { (result ≡ takesNumber c) × (result ≤ 1) }
+    ensures { (result ≡ takes_number c) × (result ≤ 1) }
 {
     if c == b'%' {
         return 1;
@@ -59,8 +59,8 @@ fn takes_number(c: u8) -> usize
 // Writes what a character of a form stands for: % a number in decimal digits, # a byte in hexadecimal ones, else
 // itself.
 fn put_form_text(out: &mut [u8], at: usize, c: u8, n: usize) -> usize
-    requires { at + length (formText c n) ≤ length out.old }
-    ensures { Puts (formText c n) at out.old result out.new }
+    requires { at + length (form_text c n) ≤ length out.old }
+    ensures { Puts (form_text c n) at out.old result out.new }
 {
     if c == b'%' {
         return put_decimal(out, at, n);

@@ -4,7 +4,7 @@ use Rattle.basis.specs.Reply.{ok}
 use Rattle.tlv.specs.Tag.{Tag, tag_of}
 use Rattle.tlv.specs.Object.{Item}
 use Rattle.tlv.specs.declared.Reading.TheVariants.{Crate}
-use Rattle.listing.specs.Text.{hex, line, objectLine}
+use Rattle.listing.specs.Text.{hex, line, object_line}
 
 -- bytes in hexadecimal digits, two each
 unfoldable pub hexes : List ℕ → List ℕ
@@ -16,5 +16,5 @@ hexes (b ∷ bs) = hex b ++ hexes bs
 pub record Shown (k j : ℕ) (s : List ℕ) (i : Item) : Type 0 where
   pub tag : Tag
   pub read : tag_of Crate (drop i.place s) ≡ ok tag
-  pub text : objectLine k j i.tag i.len
+  pub text : object_line k j i.tag i.len
       ≡ line "%.% " (k ∷ j ∷ []) ++ (hexes (take tag.size (drop i.place s)) ++ line " %\n" (i.len ∷ []))

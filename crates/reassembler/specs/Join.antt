@@ -3,12 +3,12 @@
 use Rattle.std.specs.Prelude.{ℕ, ◌≡◌, Bool, true, false, cond, List, eqb, length, take}
 use Rattle.std.proofs.Math.Option.{Option, none, some}
 use Rattle.basis.specs.Reply.{Reply, ok, refused}
-use Rattle.basis.specs.Over.{overAt}
-use Rattle.class.specs.Chain.{chainingBit, chained}
+use Rattle.basis.specs.Over.{over_at}
+use Rattle.class.specs.Chain.{chaining_bit, chained}
 use Rattle.class.specs.declared.Class.{Class}
 use Rattle.class.specs.declared.Reading.TheVariants.{Crate}
-use Rattle.command.specs.Command.{parse, dataIn}
-use Rattle.command.specs.Owned.{taken_of, extendOf}
+use Rattle.command.specs.Command.{parse, data_in}
+use Rattle.command.specs.Owned.{taken_of, extend_of}
 use Rattle.command.specs.declared.CommandView.{CommandView}
 use Rattle.command.specs.declared.owned.Command.{Command}
 use Rattle.reassembler.specs.declared.OpenChain.{OpenChain}
@@ -19,13 +19,13 @@ use Rattle.reassembler.specs.declared.Joining.TheVariants as joining
 use Rattle.reassembler.specs.declared.Joined.{Joined}
 
 -- two classes are the same apart from bit 0x10: with the bit set in both they are equal (rule 5.2)
-unfoldable pub sameClass : Class → Class → Bool
-sameClass c d = eqb (chained c.cla) (chained d.cla)
+unfoldable pub same_class : Class → Class → Bool
+same_class c d = eqb (chained c.cla) (chained d.cla)
 
 -- a piece continues an open chain: class apart from bit 0x10, instruction, P1 and P2 equal the first piece's (rule 5.2)
-unfoldable pub continuesOpen : OpenChain → CommandView → Bool
-continuesOpen h v =
-    cond (sameClass h.class v.class)
+unfoldable pub continues_open : OpenChain → CommandView → Bool
+continues_open h v =
+    cond (same_class h.class v.class)
     (cond (eqb h.instruction v.instruction) (cond (eqb h.p1 v.p1) (eqb h.p2 v.p2) false) false) false
 
 -- the same as a statement, for theorems about headers
@@ -38,37 +38,37 @@ pub record SameHeader (h : OpenChain) (v : CommandView) : Type 0 where
 -- a piece may be joined in this state: any piece if no chain is open (rule 5.2)
 abbrev pub continues : Reassembler → CommandView → Bool
 continues Closed v = true
-continues (Open h) v = continuesOpen h v
+continues (Open h) v = continues_open h v
 
 -- how many bytes of the room are held: none if no chain is open, so the next piece starts at the beginning (rule 5.5)
-abbrev pub heldLen : Reassembler → ℕ
-heldLen Closed = 0
-heldLen (Open h) = h.len
+abbrev pub held_len : Reassembler → ℕ
+held_len Closed = 0
+held_len (Open h) = h.len
 
 -- extended is the piece's own flag for a single piece, true for several (rule 5.6)
-abbrev pub extendedIn : Reassembler → CommandView → Bool
-extendedIn Closed v = v.extended
-extendedIn (Open h) v = true
+abbrev pub extended_in : Reassembler → CommandView → Bool
+extended_in Closed v = v.extended
+extended_in (Open h) v = true
 
 -- the command with n joined bytes: header and Le are this piece's (rule 5.5)
-abbrev pub commandIn : Reassembler → CommandView → ℕ → Command
-commandIn r v n = taken_of v n (extendedIn r v)
+abbrev pub command_in : Reassembler → CommandView → ℕ → Command
+command_in r v n = taken_of v n (extended_in r v)
 
 -- the joined length, for n data bytes of this piece and a room of m bytes: 17 is tested before 18 (rules 5.2 and 5.3)
 unfoldable pub length_of : Reassembler → CommandView → ℕ → ℕ → Reply ℕ
-length_of r v n m = cond (continues r v) (extendOf (heldLen r) n m) (refused 17)
+length_of r v n m = cond (continues r v) (extend_of (held_len r) n m) (refused 17)
 
 -- the chain that is open after a piece: the piece's header and how many bytes are held; no Le is kept (rule 5.7)
-abbrev pub chainAfter : CommandView → ℕ → OpenChain
-chainAfter v n = record { class = v.class; instruction = v.instruction; p1 = v.p1; p2 = v.p2; len = n }
+abbrev pub chain_after : CommandView → ℕ → OpenChain
+chain_after v n = record { class = v.class; instruction = v.instruction; p1 = v.p1; p2 = v.p2; len = n }
 
 -- the answer, when the data are joined. Bit 0x10 set: more (none; rule 5.4). Clear: the command (rule 5.5)
 unfoldable pub answer_of : CommandView → Command → Option Command
-answer_of v c = cond (eqb (chainingBit v.class.cla) 1) none (some c)
+answer_of v c = cond (eqb (chaining_bit v.class.cla) 1) none (some c)
 
 -- the state, when the data are joined. Bit 0x10 set: the chain is open (rule 5.4). Clear: it is closed (rule 5.5)
 unfoldable pub state_of : CommandView → ℕ → Reassembler
-state_of v n = cond (eqb (chainingBit v.class.cla) 1) (Open (chainAfter v n)) Closed
+state_of v n = cond (eqb (chaining_bit v.class.cla) 1) (Open (chain_after v n)) Closed
 
 -- what a piece comes to: the reply, and the state and the room after it
 pub record Outcome : Type 0 where
@@ -77,36 +77,36 @@ pub record Outcome : Type 0 where
   pub room : List ℕ
 
 -- a refusal changes neither the state nor the room (rule 1.25)
-abbrev pub refusedOf : Reassembler → List ℕ → ℕ → Outcome
-refusedOf r room k = record { reply = refused k; state = r; room = room }
+abbrev pub refused_of : Reassembler → List ℕ → ℕ → Outcome
+refused_of r room k = record { reply = refused k; state = r; room = room }
 
 -- data d of a piece go into the room after those held (rule 5.3); room bytes past them stay (rule 5.9)
-abbrev pub takenIn : Reassembler → List ℕ → CommandView → List ℕ → Reply ℕ → Outcome
-takenIn r room v d (ok n) = record { reply = ok (answer_of v (commandIn r v n)); state = state_of v n; room = overAt (heldLen r) d room }
-takenIn r room v d (refused k) = refusedOf r room k
+abbrev pub taken_in : Reassembler → List ℕ → CommandView → List ℕ → Reply ℕ → Outcome
+taken_in r room v d (ok n) = record { reply = ok (answer_of v (command_in r v n)); state = state_of v n; room = over_at (held_len r) d room }
+taken_in r room v d (refused k) = refused_of r room k
 
 -- a piece that was parsed as v, with data d
-abbrev pub viewIn : Reassembler → List ℕ → CommandView → List ℕ → Outcome
-viewIn r room v d = takenIn r room v d (length_of r v (length d) (length room))
+abbrev pub view_in : Reassembler → List ℕ → CommandView → List ℕ → Outcome
+view_in r room v d = taken_in r room v d (length_of r v (length d) (length room))
 
 -- a piece s, by what the parser says of it: its refusals are handed on (rule 5.1)
-abbrev pub parsedIn : Reassembler → List ℕ → List ℕ → Reply CommandView → Outcome
-parsedIn r room s (ok v) = viewIn r room v (dataIn s (ok v))
-parsedIn r room s (refused k) = refusedOf r room k
+abbrev pub parsed_in : Reassembler → List ℕ → List ℕ → Reply CommandView → Outcome
+parsed_in r room s (ok v) = view_in r room v (data_in s (ok v))
+parsed_in r room s (refused k) = refused_of r room k
 
 -- a piece s, parsed in the crate reading (rule 5.1)
 unfoldable pub join_of : Reassembler → List ℕ → List ℕ → Outcome
-join_of r room s = parsedIn r room s (parse Crate s)
+join_of r room s = parsed_in r room s (parse Crate s)
 
 -- the answer of the code as a reply: `none` stands for more
-abbrev pub asReply : Joining → Reply (Option Command)
-asReply joining.More = ok none
-asReply (joining.Command c) = ok (some c)
-asReply (joining.Refused k) = refused k
+abbrev pub as_reply : Joining → Reply (Option Command)
+as_reply joining.More = ok none
+as_reply (joining.Command c) = ok (some c)
+as_reply (joining.Refused k) = refused k
 
 -- an answer and a state that have this reply and this state
 pub record Says (y : Reply (Option Command)) (r : Reassembler) (x : Joined) : Type 0 where
-  pub reply : asReply x.answer ≡ y
+  pub reply : as_reply x.answer ≡ y
   pub state : x.state ≡ r
 
 -- an answer, a state and a room at exit that have this outcome
@@ -115,13 +115,13 @@ pub record Joins (o : Outcome) (x : Joined) (after : List ℕ) : Type 0 where
   pub buffer : after ≡ o.room
 
 -- the promise of `join`
-abbrev pub join_is : Reassembler → List ℕ → List ℕ → Joined → List ℕ → Type 0
-join_is r s room x after = Joins (join_of r room s) x after
+abbrev pub JoinIs : Reassembler → List ℕ → List ℕ → Joined → List ℕ → Type 0
+JoinIs r s room x after = Joins (join_of r room s) x after
 
 -- the promises of `new` and `reset`: no chain is open (rule 5.8)
-abbrev pub closed_is : Reassembler → Type 0
-closed_is x = x ≡ Closed
+abbrev pub ClosedIs : Reassembler → Type 0
+ClosedIs x = x ≡ Closed
 
 -- the promise of `data`: the joined data are the front of the room, as long as the command says (rule 5.9)
-abbrev pub data_is : Command → List ℕ → List ℕ → Type 0
-data_is c room x = x ≡ take c.len room
+abbrev pub DataIs : Command → List ℕ → List ℕ → Type 0
+DataIs c room x = x ≡ take c.len room

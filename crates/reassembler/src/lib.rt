@@ -2,7 +2,7 @@
 // 5.9). Added by us: the Rust crate has no reassembler.
 ghost use Rattle.std.specs.Prelude.{◌≡◌};
 ghost use Rattle.basis.specs.Reply.{ok, refused};
-ghost use Rattle.reassembler.specs.Join.{sameClass, continuesOpen, continues, heldLen, extendedIn, commandIn, answer_of, state_of, viewIn, Says, Joins, join_is, closed_is, data_is};
+ghost use Rattle.reassembler.specs.Join.{same_class, continues_open, continues, held_len, extended_in, command_in, answer_of, state_of, view_in, Says, Joins, JoinIs, ClosedIs, DataIs};
 
 use byte_slices::part;
 use class::{Class, Reading};
@@ -43,7 +43,7 @@ pub struct Joined {
 
 // Whether two classes are the same apart from bit 0x10: they are compared with the bit set in both (rule 5.2).
 fn same_class(before: Class, class: Class) -> bool
-    ensures { result ≡ sameClass before class }
+    ensures { result ≡ same_class before class }
 {
     let before = before.as_chained();
     let class = class.as_chained();
@@ -52,7 +52,7 @@ fn same_class(before: Class, class: Class) -> bool
 
 // Whether a piece has the header of an open chain, apart from bit 0x10 of the class (rule 5.2).
 fn continues_open(chain: OpenChain, view: CommandView) -> bool
-    ensures { result ≡ continuesOpen chain view }
+    ensures { result ≡ continues_open chain view }
 {
     let before = chain.class;
     let class = view.class;
@@ -96,7 +96,7 @@ fn accepted(view: CommandView, command: Command) -> Joined
 impl Reassembler {
     // A fresh reassembler: no chain is open.
     pub fn new() -> Reassembler
-        ensures { closed_is result }
+        ensures { ClosedIs result }
     {
         let fresh = Reassembler::Closed;
         fresh
@@ -104,7 +104,7 @@ impl Reassembler {
 
     // Forgets an open chain. It always succeeds, and has no room that it could change (rule 5.8).
     pub fn reset(self) -> Reassembler
-        ensures { closed_is result }
+        ensures { ClosedIs result }
     {
         Reassembler::new()
     }
@@ -121,7 +121,7 @@ impl Reassembler {
 
     // How many bytes of the room hold data of the open chain; none if no chain is open (rule 5.5).
     fn held_len(self) -> usize
-        ensures { result ≡ heldLen self }
+        ensures { result ≡ held_len self }
     {
         match self {
             Reassembler::Closed => 0,
@@ -131,7 +131,7 @@ impl Reassembler {
 
     // The extended flag of a command whose last piece this is: its own for a single piece, true for several (rule 5.6).
     fn extended(self, view: CommandView) -> bool
-        ensures { result ≡ extendedIn self view }
+        ensures { result ≡ extended_in self view }
     {
         match self {
             Reassembler::Closed => view.extended,
@@ -142,7 +142,7 @@ impl Reassembler {
     // The command before the data of this piece are joined to it: its length is that of the data held. The extension
     // replaces header and Le by those of the piece, so of the other fields only the flag counts.
     fn command(self, view: CommandView) -> Command
-        ensures { result ≡ commandIn self view (heldLen self) }
+        ensures { result ≡ command_in self view (held_len self) }
     {
         let class = view.class;
         Command {
@@ -169,7 +169,7 @@ impl Reassembler {
     // Joins a piece that was parsed, and its data: 17 if it does not continue the chain, 18 if there is no room for its
     // data.
     fn join_view(self, view: CommandView, data: &[u8], room: &mut [u8]) -> Joined
-        ensures { Joins (viewIn self room.old view «data».now) result room.new }
+        ensures { Joins (view_in self room.old view «data».now) result room.new }
     {
         if !self.continues(view) {
             return self.refused(17);
@@ -190,7 +190,7 @@ impl Reassembler {
     // Joins a piece. It is parsed in the crate reading (rule 5.1), and its data go into the room after those held (rule
     // 5.3).
     pub fn join(self, piece: &[u8], room: &mut [u8]) -> Joined
-        ensures { join_is self piece.now room.old result room.new }
+        ensures { JoinIs self piece.now room.old result room.new }
     {
         match CommandView::try_from(Reading::Crate, piece) {
             Parsed::Refused(k) => self.refused(k),
@@ -201,7 +201,7 @@ impl Reassembler {
 
 // The data of a command that was given back: the front of the room, as long as the command says (rule 5.9).
 pub fn data<'a>(command: Command, room: &'a [u8]) -> &'a [u8]
-    ensures { data_is command room.now result.now }
+    ensures { DataIs command room.now result.now }
 {
     part(room, 0, command.len)
 }

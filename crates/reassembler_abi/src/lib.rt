@@ -2,10 +2,10 @@
 // it as six numbers. Each function returns 0, or the number of a refusal (rules 1.1 to 1.21).
 ghost use Rattle.std.specs.Prelude.{◌≡◌, ◌++◌};
 ghost use Rattle.basis.specs.Reply.{ok};
-ghost use Rattle.reassembler.specs.Join.{asReply, closed_is};
+ghost use Rattle.reassembler.specs.Join.{as_reply, ClosedIs};
 ghost use Rattle.abi.specs.Answers.{NumbersWritten};
-ghost use Rattle.reassembler_abi.specs.Numbers.{stateAsReply, stateByNumbers, openChainNumbers, stateNumbers, commandAnswerNumbers};
-ghost use Rattle.reassembler_abi.specs.Numbers.{openedNumber, joinReply, stateMet, PieceJoined, reset-is, JoinedData};
+ghost use Rattle.reassembler_abi.specs.Numbers.{state_as_reply, state_by_numbers, open_chain_numbers, state_numbers, command_answer_numbers};
+ghost use Rattle.reassembler_abi.specs.Numbers.{opened_number, join_reply, state_met, PieceJoined, ResetIs, JoinedData};
 
 use abi::{command_numbers, command_of_length, refusal_status, usable_len, write_numbers};
 use class::{Class, FromByte};
@@ -21,7 +21,7 @@ enum Numbered {
 
 // The state that six numbers stand for: no chain is open if `opened` is 0, whatever the others are.
 fn state_by_numbers(opened: u8, class: u8, instruction: u8, p1: u8, p2: u8, held: usize) -> Numbered
-    ensures { stateAsReply result ≡ stateByNumbers opened class instruction p1 p2 held }
+    ensures { state_as_reply result ≡ state_by_numbers opened class instruction p1 p2 held }
 {
     if opened == 0 {
         return Numbered::State(Reassembler::new());
@@ -43,7 +43,7 @@ fn state_by_numbers(opened: u8, class: u8, instruction: u8, p1: u8, p2: u8, held
 
 // The six numbers of an open chain.
 fn open_chain_numbers(chain: OpenChain) -> [u64; 6]
-    ensures { result ≡ openChainNumbers chain }
+    ensures { result ≡ open_chain_numbers chain }
 {
     let class = chain.class;
     [
@@ -58,7 +58,7 @@ fn open_chain_numbers(chain: OpenChain) -> [u64; 6]
 
 // The six numbers of a state: zeros if no chain is open.
 fn state_numbers(state: Reassembler) -> [u64; 6]
-    ensures { result ≡ stateNumbers state }
+    ensures { result ≡ state_numbers state }
 {
     match state {
         Reassembler::Closed => [0, 0, 0, 0, 0, 0],
@@ -68,7 +68,7 @@ fn state_numbers(state: Reassembler) -> [u64; 6]
 
 // The eight numbers of an answer that is a command: 1, and the seven of the command.
 fn command_answer_numbers(command: Command) -> [u64; 8]
-    ensures { result ≡ commandAnswerNumbers command }
+    ensures { result ≡ command_answer_numbers command }
 {
     let n = command_numbers(command);
     [1, n[0], n[1], n[2], n[3], n[4], n[5], n[6]]
@@ -77,7 +77,7 @@ fn command_answer_numbers(command: Command) -> [u64; 8]
 // Writes the row: the eight numbers of an answer, and the six of the state after them. 16 if the host lent fewer than
 // 14.
 fn write_row(answer: &[u64; 8], state: Reassembler, out: &mut [u64]) -> u8
-    ensures { NumbersWritten 14 (ok (answer.now ++ stateNumbers state)) out.old result out.new }
+    ensures { NumbersWritten 14 (ok (answer.now ++ state_numbers state)) out.old result out.new }
 {
     if out.len() < 14 {
         return 16;
@@ -89,7 +89,7 @@ fn write_row(answer: &[u64; 8], state: Reassembler, out: &mut [u64]) -> u8
 
 // Writes the answer to a piece and the state after it.
 fn write_joined(answer: Joining, state: Reassembler, out: &mut [u64]) -> u8
-    ensures { NumbersWritten 14 (joinReply (asReply answer) state) out.old result out.new }
+    ensures { NumbersWritten 14 (join_reply (as_reply answer) state) out.old result out.new }
 {
     match answer {
         Joining::Refused(k) => refusal_status(k, out.len(), 14),
@@ -118,7 +118,7 @@ pub extern "C" fn gorvisclen_join(
     room: &mut [u8],
     out: &mut [u64],
 ) -> u8
-    ensures { PieceJoined (stateMet piece.now (stateByNumbers opened class instruction p1 p2 held)) piece.now
+    ensures { PieceJoined (state_met piece.now (state_by_numbers opened class instruction p1 p2 held)) piece.now
         room.old out.old result room.new out.new }
 {
     if piece.len() < 4 {
@@ -138,7 +138,7 @@ pub extern "C" fn gorvisclen_join(
 
 // The state after a reset: no chain is open, also if the numbers stood for no state.
 fn state_after_reset(numbered: Numbered) -> Reassembler
-    ensures { closed_is result }
+    ensures { ClosedIs result }
 {
     match numbered {
         Numbered::Refused(_) => Reassembler::new(),
@@ -148,7 +148,7 @@ fn state_after_reset(numbered: Numbered) -> Reassembler
 
 // The first number of a state: whether a chain is open.
 fn opened_number(state: Reassembler) -> u8
-    ensures { result ≡ openedNumber state }
+    ensures { result ≡ opened_number state }
 {
     match state {
         Reassembler::Closed => 0,
@@ -167,7 +167,7 @@ pub extern "C" fn gorvisclen_reset(
     p2: u8,
     held: usize,
 ) -> u8
-    ensures { reset-is opened class instruction p1 p2 held result }
+    ensures { ResetIs opened class instruction p1 p2 held result }
 {
     let before = state_by_numbers(opened, class, instruction, p1, p2, held);
     let after = state_after_reset(before);

@@ -8,12 +8,12 @@ use borrow.Author.Tests.{lt-ltb, le-ltb}
 use lib.ListN.{length}
 use Rattle.basis.specs.Over.{over}
 use Rattle.response.specs.Status.{word_of}
-use Rattle.response.specs.Words.{listed_at, nameIn, place_of, name_at, name_of, NameCopied, name-is}
+use Rattle.response.specs.Words.{listed_at, name_in, place_of, name_at, name_of, NameCopied, NameIs}
 use Rattle.response.specs.declared.status.Status.{Status}
 use Rattle.response.specs.declared.words.ListedWord.{ListedWord}
 use Rattle.response.specs.declared.words.Copied.{Copied}
 use Rattle.response.specs.declared.words.Copied.TheVariants as copied
-use Rattle.response.proofs.Table.{found-there}
+use Rattle.response.proofs.Table.{found_there}
 
 -- a name that does not fit, and one that does
 module _ (name to : List ℕ) where
@@ -27,13 +27,13 @@ module _ (name to : List ℕ) where
 module _ (t : Status) where
   pub place_inside : (k : ℕ) → place_of t ≡ some k → k < 21
   unfolding place_of
-  place_inside k e = (found-there (word_of t) k e).0
+  place_inside k e = (found_there (word_of t) k e).0
 
-  pub no_name : (to : List ℕ) → place_of t ≡ none → name-is t to (copied.Bytes 0) to
+  pub no_name : (to : List ℕ) → place_of t ≡ none → NameIs t to (copied.Bytes 0) to
   unfolding name_of over
   no_name to e = rw e (fits [] to 0 to (omega arith) refl refl)
 
   pub named : (k : ℕ) (r : ListedWord) (to : List ℕ) (x : Copied) (after : List ℕ) → place_of t ≡ some k → r ≡ listed_at k
-      → NameCopied (nameIn r) to x after → name-is t to x after
+      → NameCopied (name_in r) to x after → NameIs t to x after
   unfolding name_of
-  named k r to x after e f h = subst (λ l. NameCopied l to x after) (ap nameIn f ∙ sym (ap name_at e)) h
+  named k r to x after e f h = subst (λ l. NameCopied l to x after) (ap name_in f ∙ sym (ap name_at e)) h

@@ -12,5 +12,5 @@ abbrev pub count : (ℕ → Bool) → ℕ → ℕ
 count f n = total (λ b. cond (f b) 1 0) n
 
 -- how many statuses have the class k: SW1 and SW2 are each below 256
-abbrev pub statusesOf : ℕ → ℕ
-statusesOf k = total (λ a. count (λ b. eqb (class_of (record { sw1 = a; sw2 = b })) k) 256) 256
+abbrev pub statuses_of : ℕ → ℕ
+statuses_of k = total (λ a. count (λ b. eqb (class_of (record { sw1 = a; sw2 = b })) k) 256) 256

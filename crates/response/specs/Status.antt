@@ -15,40 +15,40 @@ normal = 0
 abbrev pub warning : ℕ
 warning = 1
 
-abbrev pub executionError : ℕ
-executionError = 2
+abbrev pub execution_error : ℕ
+execution_error = 2
 
-abbrev pub checkingError : ℕ
-checkingError = 3
+abbrev pub checking_error : ℕ
+checking_error = 3
 
 abbrev pub unknown : ℕ
 unknown = 4
 
 -- the class by SW1 alone: 61 normal, 62 and 63 warning, 64 to 66 execution error, 67 to 6F checking error, any other
 -- unknown (rule 13.4)
-unfoldable pub classBySw1 : ℕ → ℕ
-classBySw1 a =
+unfoldable pub class_by_sw1 : ℕ → ℕ
+class_by_sw1 a =
     cond (leb a 0x60) unknown
     (cond (leb a 0x61) normal
     (cond (leb a 0x63) warning
-    (cond (leb a 0x66) executionError
-    (cond (leb a 0x6F) checkingError unknown))))
+    (cond (leb a 0x66) execution_error
+    (cond (leb a 0x6F) checking_error unknown))))
 
 -- the class of a status: 9000 is normal, any other 90xx unknown, the rest goes by SW1 (rule 13.4)
 unfoldable pub class_of : Status → ℕ
-class_of t = cond (eqb t.sw1 0x90) (cond (eqb t.sw2 0x00) normal unknown) (classBySw1 t.sw1)
+class_of t = cond (eqb t.sw1 0x90) (cond (eqb t.sw2 0x00) normal unknown) (class_by_sw1 t.sw1)
 
 -- an answer of the code as its number
-abbrev pub classAsNumber : StatusClass → ℕ
-classAsNumber Normal = normal
-classAsNumber Warning = warning
-classAsNumber ExecutionError = executionError
-classAsNumber CheckingError = checkingError
-classAsNumber Unknown = unknown
+abbrev pub class_as_number : StatusClass → ℕ
+class_as_number Normal = normal
+class_as_number Warning = warning
+class_as_number ExecutionError = execution_error
+class_as_number CheckingError = checking_error
+class_as_number Unknown = unknown
 
 -- the promises of `word` and `class`
-abbrev pub word-is : Status → ℕ → Type 0
-word-is t x = x ≡ word_of t
+abbrev pub WordIs : Status → ℕ → Type 0
+WordIs t x = x ≡ word_of t
 
-abbrev pub class-is : Status → StatusClass → Type 0
-class-is t x = classAsNumber x ≡ class_of t
+abbrev pub ClassIs : Status → StatusClass → Type 0
+ClassIs t x = class_as_number x ≡ class_of t

@@ -15,34 +15,34 @@ use Rattle.response.specs.declared.words.Copied.{Copied}
 use Rattle.response.specs.declared.words.Copied.TheVariants as copied
 
 -- an entry: a word, the length of its name, and the name with spaces after it, in 32 letters
-abbrev pub listedWord : ℕ → String → ListedWord
-listedWord w name =
+abbrev pub listed_word : ℕ → String → ListedWord
+listed_word w name =
     record { word = w; len = length (ascii name); letters = ascii name ++ replicate (32 - length (ascii name)) 32 }
 
 -- the listed words: 6700, 6881 to 6884, 6981 to 6986, 6A80 to 6A84, 6A86, 6A88, 6B00, 6D00, 6E00 (rule 13.5)
 unfoldable pub table : List ListedWord
 table =
-    listedWord 0x6700 "WrongLength"
-    ∷ listedWord 0x6881 "LogicalChannelNotSupported"
-    ∷ listedWord 0x6882 "SecureMessagingNotSupported"
-    ∷ listedWord 0x6883 "LastCommandOfChainExpected"
-    ∷ listedWord 0x6884 "CommandChainingNotSupported"
-    ∷ listedWord 0x6981 "CommandIncompatibleFileStructure"
-    ∷ listedWord 0x6982 "SecurityStatusNotSatisfied"
-    ∷ listedWord 0x6983 "OperationBlocked"
-    ∷ listedWord 0x6984 "ReferenceDataNotUsable"
-    ∷ listedWord 0x6985 "ConditionsOfUseNotSatisfied"
-    ∷ listedWord 0x6986 "CommandNotAllowedNoEf"
-    ∷ listedWord 0x6A80 "IncorrectDataParameter"
-    ∷ listedWord 0x6A81 "FunctionNotSupported"
-    ∷ listedWord 0x6A82 "NotFound"
-    ∷ listedWord 0x6A83 "RecordNotFound"
-    ∷ listedWord 0x6A84 "NotEnoughMemory"
-    ∷ listedWord 0x6A86 "IncorrectP1OrP2Parameter"
-    ∷ listedWord 0x6A88 "KeyReferenceNotFound"
-    ∷ listedWord 0x6B00 "WrongParameters"
-    ∷ listedWord 0x6D00 "InstructionNotSupportedOrInvalid"
-    ∷ listedWord 0x6E00 "ClassNotSupported"
+    listed_word 0x6700 "WrongLength"
+    ∷ listed_word 0x6881 "LogicalChannelNotSupported"
+    ∷ listed_word 0x6882 "SecureMessagingNotSupported"
+    ∷ listed_word 0x6883 "LastCommandOfChainExpected"
+    ∷ listed_word 0x6884 "CommandChainingNotSupported"
+    ∷ listed_word 0x6981 "CommandIncompatibleFileStructure"
+    ∷ listed_word 0x6982 "SecurityStatusNotSatisfied"
+    ∷ listed_word 0x6983 "OperationBlocked"
+    ∷ listed_word 0x6984 "ReferenceDataNotUsable"
+    ∷ listed_word 0x6985 "ConditionsOfUseNotSatisfied"
+    ∷ listed_word 0x6986 "CommandNotAllowedNoEf"
+    ∷ listed_word 0x6A80 "IncorrectDataParameter"
+    ∷ listed_word 0x6A81 "FunctionNotSupported"
+    ∷ listed_word 0x6A82 "NotFound"
+    ∷ listed_word 0x6A83 "RecordNotFound"
+    ∷ listed_word 0x6A84 "NotEnoughMemory"
+    ∷ listed_word 0x6A86 "IncorrectP1OrP2Parameter"
+    ∷ listed_word 0x6A88 "KeyReferenceNotFound"
+    ∷ listed_word 0x6B00 "WrongParameters"
+    ∷ listed_word 0x6D00 "InstructionNotSupportedOrInvalid"
+    ∷ listed_word 0x6E00 "ClassNotSupported"
     ∷ []
 
 -- the entry at a place of the table; past its end there is none
@@ -50,8 +50,8 @@ unfoldable pub listed_at : ℕ → ListedWord
 listed_at k = get_or table k (record { word = 0; len = 0; letters = [] })
 
 -- the name of an entry
-unfoldable pub nameIn : ListedWord → List ℕ
-nameIn r = take r.len r.letters
+unfoldable pub name_in : ListedWord → List ℕ
+name_in r = take r.len r.letters
 
 -- a place that is counted from the next entry on
 abbrev pub next : Option ℕ → Option ℕ
@@ -64,14 +64,14 @@ place_in [] w = none
 place_in (r ∷ rs) w = cond (eqb r.word w) (some 0) (next (place_in rs w))
 
 -- whether a number stands in a list
-unfoldable pub isIn : ℕ → List ℕ → Bool
-isIn n [] = false
-isIn n (x ∷ xs) = cond (eqb x n) true (isIn n xs)
+unfoldable pub is_in : ℕ → List ℕ → Bool
+is_in n [] = false
+is_in n (x ∷ xs) = cond (eqb x n) true (is_in n xs)
 
 -- the one test that entries are distinct: none stands among those after it (rule 13.5)
 unfoldable pub distinct : List ℕ → Bool
 distinct [] = true
-distinct (x ∷ xs) = cond (isIn x xs) false (distinct xs)
+distinct (x ∷ xs) = cond (is_in x xs) false (distinct xs)
 
 -- the place of a status in the table (rule 13.5)
 unfoldable pub place_of : Status → Option ℕ
@@ -80,7 +80,7 @@ place_of t = place_in table (word_of t)
 -- the name at a place: none if the word is not listed (rule 13.5)
 abbrev pub name_at : Option ℕ → List ℕ
 name_at none = []
-name_at (some k) = nameIn (listed_at k)
+name_at (some k) = name_in (listed_at k)
 
 -- the name of a status (rule 13.5)
 unfoldable pub name_of : Status → List ℕ
@@ -91,27 +91,27 @@ abbrev pub copy_of : ℕ → ℕ → Reply ℕ
 copy_of n m = cond (ltb m n) (refused 16) (ok n)
 
 -- the buffer after it: the name at its front; a refusal changes no byte (rule 1.25)
-abbrev pub bufferAfter : Reply ℕ → List ℕ → List ℕ → List ℕ
-bufferAfter (ok n) name to = over name to
-bufferAfter (refused k) name to = to
+abbrev pub buffer_after : Reply ℕ → List ℕ → List ℕ → List ℕ
+buffer_after (ok n) name to = over name to
+buffer_after (refused k) name to = to
 
 -- the answers of the code in these forms
-abbrev pub entryAsOption : Entry → Option ℕ
-entryAsOption (entry.Place k) = some k
-entryAsOption entry.None = none
+abbrev pub entry_as_option : Entry → Option ℕ
+entry_as_option (entry.Place k) = some k
+entry_as_option entry.None = none
 
-abbrev pub copiedAsReply : Copied → Reply ℕ
-copiedAsReply (copied.Bytes n) = ok n
-copiedAsReply (copied.Refused k) = refused k
+abbrev pub copied_as_reply : Copied → Reply ℕ
+copied_as_reply (copied.Bytes n) = ok n
+copied_as_reply (copied.Refused k) = refused k
 
 -- a name copied to the front of a buffer
 pub record NameCopied (name to : List ℕ) (x : Copied) (after : List ℕ) : Type 0 where
-  pub reply : copiedAsReply x ≡ copy_of (length name) (length to)
-  pub buffer : after ≡ bufferAfter (copy_of (length name) (length to)) name to
+  pub reply : copied_as_reply x ≡ copy_of (length name) (length to)
+  pub buffer : after ≡ buffer_after (copy_of (length name) (length to)) name to
 
 -- the promises of `listed` and `name`
-abbrev pub listed-is : Status → Entry → Type 0
-listed-is t x = entryAsOption x ≡ place_of t
+abbrev pub ListedIs : Status → Entry → Type 0
+ListedIs t x = entry_as_option x ≡ place_of t
 
-abbrev pub name-is : Status → List ℕ → Copied → List ℕ → Type 0
-name-is t to x after = NameCopied (name_of t) to x after
+abbrev pub NameIs : Status → List ℕ → Copied → List ℕ → Type 0
+NameIs t to x after = NameCopied (name_of t) to x after

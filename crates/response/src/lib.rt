@@ -1,6 +1,6 @@
 // Responses, what a card says back: a response split into its data and its status (rules 13.1 and 13.2), and its data
 // appended to a room that the caller lends (rule 13.6). status.rt says what a status means, words.rt names some.
-ghost use Rattle.response.specs.Response.{split-is, data_is, Holds, append-is};
+ghost use Rattle.response.specs.Response.{SplitIs, DataIs, Holds, AppendIs};
 
 mod status;
 mod words;
@@ -24,7 +24,7 @@ pub enum Answer {
 
 // Splits a response: all its bytes but the last two are data, the last two are SW1 and SW2 (rule 13.1).
 pub fn split(response: &[u8]) -> Answer
-    ensures { split-is response.now result }
+    ensures { SplitIs response.now result }
 {
     let n = response.len();
     if n < 2 {
@@ -39,7 +39,7 @@ pub fn split(response: &[u8]) -> Answer
 
 // The data of a response, as that very part of its bytes; no bytes if it is refused (rule 13.2).
 pub fn data<'a>(response: &'a [u8]) -> &'a [u8]
-    ensures { data_is response.now result.now }
+    ensures { DataIs response.now result.now }
 {
     let n = response.len();
     if n < 2 {
@@ -69,7 +69,7 @@ fn hold(status: Status, data: &[u8], held: usize, room: &mut [u8]) -> Answer
 
 // Appends the data of a response to a room, behind the bytes that are held: 22, then 23 (rule 13.6).
 pub fn append(response: &[u8], held: usize, room: &mut [u8]) -> Answer
-    ensures { append-is response.now held room.old result room.new }
+    ensures { AppendIs response.now held room.old result room.new }
 {
     match split(response) {
         Answer::Refused(k) => Answer::Refused(k),

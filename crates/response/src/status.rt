@@ -1,5 +1,5 @@
 // The status of a response: its word and its class by ISO/IEC 7816-4 (rules 13.3 and 13.4).
-ghost use Rattle.response.specs.Status.{word-is, class-is};
+ghost use Rattle.response.specs.Status.{WordIs, ClassIs};
 
 // The two status bytes of a response.
 #[derive(Drop)]
@@ -21,7 +21,7 @@ pub enum StatusClass {
 impl Status {
     // The status as one number: SW1 is its high byte (rule 13.3).
     pub fn word(self) -> u16
-        ensures { word-is self result }
+        ensures { WordIs self result }
     {
         self.sw1 as u16 * 256 + self.sw2 as u16
     }
@@ -29,7 +29,7 @@ impl Status {
     // The class: 9000 and 61xx normal, 62 and 63 warning, 64 to 66 execution error, 67 to 6F checking error, the rest
     // unknown (rule 13.4).
     pub fn class(self) -> StatusClass
-        ensures { class-is self result }
+        ensures { ClassIs self result }
     {
         let sw1 = self.sw1;
         match sw1 {

@@ -1,7 +1,7 @@
 // The 21 listed status words and their short names, in one table (rule 13.5). The names are those of the variants in
 // src/response/status.rs of the crate iso7816 0.2.2 (see NOTICE).
 ghost use Rattle.std.specs.Prelude.{◌≡◌, ◌<◌, ◌≤◌};
-ghost use Rattle.response.specs.Words.{listed_at, nameIn, NameCopied, listed-is, name-is};
+ghost use Rattle.response.specs.Words.{listed_at, name_in, NameCopied, ListedIs, NameIs};
 
 use crate::Status;
 
@@ -147,7 +147,7 @@ fn listed_at(place: usize) -> ListedWord
 // Copies the name of an entry to the front of a lent buffer.
 fn copy_name(entry: ListedWord, to: &mut [u8]) -> Copied
     requires { entry.len ≤ 32 }
-    ensures { NameCopied (nameIn entry) to.old result to.new }
+    ensures { NameCopied (name_in entry) to.old result to.new }
 {
     let len = entry.len;
     if to.len() < len {
@@ -160,7 +160,7 @@ fn copy_name(entry: ListedWord, to: &mut [u8]) -> Copied
 impl Status {
     // The place of this status in the table, which is looked up by its word (rule 13.5).
     pub fn listed(self) -> Entry
-        ensures { listed-is self result }
+        ensures { ListedIs self result }
     {
         let word = self.word();
         let mut place = 0;
@@ -177,7 +177,7 @@ impl Status {
     // Copies the name of this status to the front of a lent buffer. A status that is not listed has no name: no byte is
     // copied (rule 13.5).
     pub fn name(self, to: &mut [u8]) -> Copied
-        ensures { name-is self to.old result to.new }
+        ensures { NameIs self to.old result to.new }
     {
         match self.listed() {
             Entry::None => Copied::Bytes(0),

@@ -7,45 +7,45 @@ use borrow.Author.Tests.{lt-ltb, le-ltb}
 use lib.Dec.{ltb}
 use lib.ListN.{length}
 use Rattle.basis.specs.Reply.{Reply, ok, refused, then, status}
-use Rattle.abi.specs.Answers.{tooShort, outAfter, copyAfter, NumbersWritten, BytesCopied}
-use Rattle.abi.proofs.AnswerLaws.{after-short}
-use Rattle.response.specs.Response.{data_of, splitOf, held_of, appendOf, roomAfter, asReply, append-is}
-use Rattle.response.specs.Words.{bufferAfter, copiedAsReply, NameCopied}
+use Rattle.abi.specs.Answers.{too_short, out_after, copy_after, NumbersWritten, BytesCopied}
+use Rattle.abi.proofs.AnswerLaws.{after_short}
+use Rattle.response.specs.Response.{data_of, split_of, held_of, append_of, room_after, as_reply, AppendIs}
+use Rattle.response.specs.Words.{buffer_after, copied_as_reply, NameCopied}
 use Rattle.response.specs.declared.Response.{Response}
 use Rattle.response.specs.declared.Answer.{Answer}
 use Rattle.response.specs.declared.words.Copied.{Copied}
-use Rattle.response_abi.specs.Numbers.{responseReply, Appended}
+use Rattle.response_abi.specs.Numbers.{response_reply, Appended}
 
 -- 16 is a smaller number than 22 and 23: it is given whatever else is refused (rule 1.22)
-short-held : (r : Response) (w : Bool) → tooShort (responseReply (cond w (refused 23) (ok r))) ≡ refused 16
-short-held r true = refl
-short-held r false = refl
+short_held : (r : Response) (w : Bool) → too_short (response_reply (cond w (refused 23) (ok r))) ≡ refused 16
+short_held r true = refl
+short_held r false = refl
 
-short-split : (held m : ℕ) (r : Response) (b : Bool)
-    → tooShort (responseReply (then (cond b (refused 22) (ok r)) (held_of held m))) ≡ refused 16
+short_split : (held m : ℕ) (r : Response) (b : Bool)
+    → too_short (response_reply (then (cond b (refused 22) (ok r)) (held_of held m))) ≡ refused 16
 unfolding held_of
-short-split held m r true = refl
-short-split held m r false = short-held _ (ltb m _)
+short_split held m r true = refl
+short_split held m r false = short_held _ (ltb m _)
 
 module _ (s : List ℕ) (held : ℕ) (room out : List ℕ) where
-  short-append : tooShort (responseReply (appendOf s held (length room))) ≡ refused 16
-  unfolding appendOf splitOf
-  short-append = short-split held (length room) _ (ltb (length s) 2)
+  short_append : too_short (response_reply (append_of s held (length room))) ≡ refused 16
+  unfolding append_of split_of
+  short_append = short_split held (length room) _ (ltb (length s) 2)
 
   -- the slice for the numbers is too short; it is long enough
-  pub too_short : length out < 3 → Appended s held room out 16 room out
-  too_short h =
+  pub too_short_lem : length out < 3 → Appended s held room out 16 room out
+  too_short_lem h =
       let e = lt-ltb (length out) 3 h in
       record {
-        says = record { reply = rw (e, short-append); row = rw (e, short-append) };
-        bytes = rw e (after-short (λ y. roomAfter y held (data_of s) room) room (appendOf s held (length room)) (λ k. refl));
+        says = record { reply = rw (e, short_append); row = rw (e, short_append) };
+        bytes = rw e (after_short (λ y. room_after y held (data_of s) room) room (append_of s held (length room)) (λ k. refl));
       }
 
-  pub appended : (x : Answer) (room' : List ℕ) (r : ℕ) (out' : List ℕ) → 3 ≤ length out → append-is s held room x room'
-      → NumbersWritten 3 (responseReply (asReply x)) out r out' → Appended s held room out r room' out'
+  pub appended : (x : Answer) (room' : List ℕ) (r : ℕ) (out' : List ℕ) → 3 ≤ length out → AppendIs s held room x room'
+      → NumbersWritten 3 (response_reply (as_reply x)) out r out' → Appended s held room out r room' out'
   appended x room' r out' h a w =
       record {
-        says = subst (λ y. NumbersWritten 3 (responseReply y) out r out') a.reply w;
+        says = subst (λ y. NumbersWritten 3 (response_reply y) out r out') a.reply w;
         bytes = rw (le-ltb (length out) 3 h) a.buffer;
       }
 
@@ -53,31 +53,31 @@ module _ (s : List ℕ) (held : ℕ) (room out : List ℕ) where
 abbrev pub one : ℕ → Reply (List ℕ)
 one n = ok (n ∷ [])
 
-one-status : (y : Reply ℕ) → status (then y one) ≡ status y
-one-status (ok n) = refl
-one-status (refused k) = refl
+one_status : (y : Reply ℕ) → status (then y one) ≡ status y
+one_status (ok n) = refl
+one_status (refused k) = refl
 
-copy-row : (b : Bool) (n : ℕ) → cond b (refused 16) (ok (n ∷ [])) ≡ then (cond b (refused 16) (ok n)) one
-copy-row true n = refl
-copy-row false n = refl
+copy_row : (b : Bool) (n : ℕ) → cond b (refused 16) (ok (n ∷ [])) ≡ then (cond b (refused 16) (ok n)) one
+copy_row true n = refl
+copy_row false n = refl
 
-copy-left : (b : Bool) (n : ℕ) (d to : List ℕ) → copyAfter (cond b (refused 16) (ok (n ∷ []))) d to ≡ bufferAfter (cond b (refused 16) (ok n)) d to
-copy-left true n d to = refl
-copy-left false n d to = refl
+copy_left : (b : Bool) (n : ℕ) (d to : List ℕ) → copy_after (cond b (refused 16) (ok (n ∷ []))) d to ≡ buffer_after (cond b (refused 16) (ok n)) d to
+copy_left true n d to = refl
+copy_left false n d to = refl
 
 -- a name d: the slice for its length is too short; it is long enough
 module _ (d to out : List ℕ) where
   pub no_row : length out < 1 → BytesCopied d to out 16 to out
   no_row h = let e = lt-ltb (length out) 1 h in record { reply = rw e; bytes = rw e; row = rw e }
 
-  pub name-row : (x : Copied) (to' : List ℕ) (y : Reply ℕ) (out' : List ℕ) → 1 ≤ length out → NameCopied d to x to' → copiedAsReply x ≡ y
-      → out' ≡ outAfter (then y one) out → BytesCopied d to out (status y) to' out'
-  name-row x to' y out' h a e o =
+  pub name_row : (x : Copied) (to' : List ℕ) (y : Reply ℕ) (out' : List ℕ) → 1 ≤ length out → NameCopied d to x to' → copied_as_reply x ≡ y
+      → out' ≡ out_after (then y one) out → BytesCopied d to out (status y) to' out'
+  name_row x to' y out' h a e o =
       let f = le-ltb (length out) 1 h in
       let same : y ≡ cond (ltb (length to) (length d)) (refused 16) (ok (length d)) = sym e ∙ a.reply in
-      let row = copy-row (ltb (length to) (length d)) (length d) in
+      let row = copy_row (ltb (length to) (length d)) (length d) in
       record {
-        reply = rw (f, row, ← same, one-status);
-        bytes = rw (f, copy-left) a.buffer;
+        reply = rw (f, row, ← same, one_status);
+        bytes = rw (f, copy_left) a.buffer;
         row = rw (f, row, ← same) o;
       }

@@ -2,19 +2,19 @@
 // number of a refusal (docs/RULES.md, section 1). It writes its numbers to the front of the slice `out`, unless it
 // refuses.
 ghost use Rattle.std.specs.Prelude.{◌≡◌};
-ghost use Rattle.abi.specs.Answers.{NumbersWritten, ReplyCopied, orNone};
-ghost use Rattle.response.specs.Response.{asReply};
-ghost use Rattle.response.specs.Status.{classAsNumber};
-ghost use Rattle.response.specs.Words.{entryAsOption};
-ghost use Rattle.response_abi.specs.Numbers.{responseNumbers, responseReply, splitReply, dataReply, Appended};
-ghost use Rattle.response_abi.specs.Numbers.{status-is, name-is};
+ghost use Rattle.abi.specs.Answers.{NumbersWritten, ReplyCopied, or_none};
+ghost use Rattle.response.specs.Response.{as_reply};
+ghost use Rattle.response.specs.Status.{class_as_number};
+ghost use Rattle.response.specs.Words.{entry_as_option};
+ghost use Rattle.response_abi.specs.Numbers.{response_numbers, response_reply, split_reply, data_reply, Appended};
+ghost use Rattle.response_abi.specs.Numbers.{StatusIs, NameIs};
 
 use abi::{copy_bytes, refusal_status, write_numbers};
 use response::{Answer, Copied, Entry, Response, Status, StatusClass};
 
 // The three numbers of a response: how many bytes of data it has, SW1, SW2.
 fn response_numbers(response: Response) -> [u64; 3]
-    ensures { result ≡ responseNumbers response }
+    ensures { result ≡ response_numbers response }
 {
     let status = response.status;
     [response.len as u64, status.sw1 as u64, status.sw2 as u64]
@@ -22,7 +22,7 @@ fn response_numbers(response: Response) -> [u64; 3]
 
 // Writes the three numbers of a response, unless it was refused.
 fn write_answer(answer: Answer, out: &mut [u64]) -> u8
-    ensures { NumbersWritten 3 (responseReply (asReply answer)) out.old result out.new }
+    ensures { NumbersWritten 3 (response_reply (as_reply answer)) out.old result out.new }
 {
     match answer {
         Answer::Refused(k) => refusal_status(k, out.len(), 3),
@@ -36,7 +36,7 @@ fn write_answer(answer: Answer, out: &mut [u64]) -> u8
 // Writes 3 numbers: how many bytes of the response are data, SW1, SW2 (rule 13.1). Refused with 16 or 22.
 #[unsafe(no_mangle)]
 pub extern "C" fn gorvisclen_response_split(response: &[u8], out: &mut [u64]) -> u8
-    ensures { NumbersWritten 3 (splitReply response.now) out.old result out.new }
+    ensures { NumbersWritten 3 (split_reply response.now) out.old result out.new }
 {
     write_answer(response::split(response), out)
 }
@@ -45,7 +45,7 @@ pub extern "C" fn gorvisclen_response_split(response: &[u8], out: &mut [u64]) ->
 // 22.
 #[unsafe(no_mangle)]
 pub extern "C" fn gorvisclen_response_data(response: &[u8], to: &mut [u8], out: &mut [u64]) -> u8
-    ensures { ReplyCopied (dataReply response.now) to.old out.old result to.new out.new }
+    ensures { ReplyCopied (data_reply response.now) to.old out.old result to.new out.new }
 {
     match response::split(response) {
         Answer::Refused(k) => refusal_status(k, out.len(), 1),
@@ -72,7 +72,7 @@ pub extern "C" fn gorvisclen_response_append(
 
 // The number of a class.
 fn class_number(class: StatusClass) -> u64
-    ensures { result ≡ classAsNumber class }
+    ensures { result ≡ class_as_number class }
 {
     match class {
         StatusClass::Normal => 0,
@@ -85,7 +85,7 @@ fn class_number(class: StatusClass) -> u64
 
 // A place in the table as a number, 256 if there is none.
 fn place_number(entry: Entry) -> u64
-    ensures { result ≡ orNone (entryAsOption entry) }
+    ensures { result ≡ or_none (entry_as_option entry) }
 {
     match entry {
         Entry::Place(place) => place as u64,
@@ -97,7 +97,7 @@ fn place_number(entry: Entry) -> u64
 // if it is not listed (rule 13.5). Refused with 16.
 #[unsafe(no_mangle)]
 pub extern "C" fn gorvisclen_status(sw1: u8, sw2: u8, out: &mut [u64]) -> u8
-    ensures { status-is sw1 sw2 out.old result out.new }
+    ensures { StatusIs sw1 sw2 out.old result out.new }
 {
     let status = Status { sw1, sw2 };
     let row = [
@@ -112,7 +112,7 @@ pub extern "C" fn gorvisclen_status(sw1: u8, sw2: u8, out: &mut [u64]) -> u8
 // 13.5). Refused with 16.
 #[unsafe(no_mangle)]
 pub extern "C" fn gorvisclen_status_name(sw1: u8, sw2: u8, to: &mut [u8], out: &mut [u64]) -> u8
-    ensures { name-is sw1 sw2 to.old out.old result to.new out.new }
+    ensures { NameIs sw1 sw2 to.old out.old result to.new out.new }
 {
     if out.len() < 1 {
         return 16;

@@ -10,16 +10,16 @@ use borrow.Author.Tests.{lt-ltb, le-ltb}
 use lib.Dec.{ltb}
 use lib.ListN.{length, length-map, length-append, length-replicate}
 use Rattle.basis.specs.Over.{over}
-use Rattle.builder.specs.Bytes.{leWritten}
+use Rattle.builder.specs.Bytes.{le_written}
 use Rattle.builder.specs.declared.CommandBuilder.{CommandBuilder}
-use Rattle.builder_laws.specs.Read.{extendedFor}
-use Rattle.builder_laws.proofs.LeWritten.{le_read, written-short, extended-read}
+use Rattle.builder_laws.specs.Read.{extended_for}
+use Rattle.builder_laws.proofs.LeWritten.{le_read, written_short, extended_read}
 use Rattle.splitter.specs.Pieces.{parts, piece_of}
 use Rattle.splitter_laws.specs.Asked.{short_of}
 use Rattle.reassembler.specs.declared.Reassembler.TheVariants.{Closed}
 use Rattle.roundtrip_laws.specs.Run.{run}
-use Rattle.roundtrip_laws.specs.Jobs.{Job, InScope, HasRoom, pieces, repliesTo}
-use Rattle.roundtrip_laws.proofs.Cuts.{cut-sends, command-back}
+use Rattle.roundtrip_laws.specs.Jobs.{Job, InScope, HasRoom, pieces, replies_to}
+use Rattle.roundtrip_laws.proofs.Cuts.{cut_sends, command_back}
 
 -- what demand 3 asks of a job and of a room, in numbers
 pub in_scope : (j : Job) → j.request.class / 16 % 2 ≡ 0 → j.request.class ≢ 0xEF → length j.request.«data» ≤ 65535 → j.request.le ≤ 256
@@ -35,19 +35,19 @@ flag_is k x h g =
     elim (dec_le k 1) [ yes e ↦ rw (le-ltb 1 k e) (g (omega arith)) | no e ↦ rw (lt-ltb 1 k (omega arith)) ]
 
 -- what a job in scope has
-not-ef : (j : Job) → InScope j → j.request.class ≢ 0xEF
-not-ef j f = omega (arith, f.class)
+not_ef : (j : Job) → InScope j → j.request.class ≢ 0xEF
+not_ef j f = omega (arith, f.class)
 
-le-in-scope : (j : Job) → InScope j → j.request.le ≤ 256
-le-in-scope j f = omega (arith, f.le)
+le_in_scope : (j : Job) → InScope j → j.request.le ≤ 256
+le_in_scope j f = omega (arith, f.le)
 
-buffer-in-scope : (j : Job) → InScope j → 10 ≤ j.buffer
-buffer-in-scope j f = omega (arith, f.ten)
+buffer_in_scope : (j : Job) → InScope j → 10 ≤ j.buffer
+buffer_in_scope j f = omega (arith, f.ten)
 
 -- as many replies as pieces, if there is a piece
-one-reply-each : (j : Job) → 1 ≤ length (pieces j) → length (repliesTo j) ≡ length (pieces j)
-unfolding repliesTo
-one-reply-each j h = simp (length-append, length-replicate) (omega arith)
+one_reply_each : (j : Job) → 1 ≤ length (pieces j) → length (replies_to j) ≡ length (pieces j)
+unfolding replies_to
+one_reply_each j h = simp (length-append, length-replicate) (omega arith)
 
 module _ (j : Job) (f : InScope j) where
   abbrev builder : CommandBuilder
@@ -61,29 +61,29 @@ module _ (j : Job) (f : InScope j) where
   few : length d ≤ 65535
   few = omega (arith, f.few)
 
-  le-back : leWritten builder ≡ j.request.le
-  le-back = (le_read builder).number j.request.le refl (λ _. le-in-scope j f)
+  le_back : le_written builder ≡ j.request.le
+  le_back = (le_read builder).number j.request.le refl (λ _. le_in_scope j f)
 
   -- a job has at least one piece
-  pub some-piece : 1 ≤ length (pieces j)
-  some-piece = omega (arith, length-map (parts builder d j.buffer) piece_of, (cut-sends builder d j.buffer (buffer-in-scope j f) few).some-part)
+  pub some_piece : 1 ≤ length (pieces j)
+  some_piece = omega (arith, length-map (parts builder d j.buffer) piece_of, (cut_sends builder d j.buffer (buffer_in_scope j f) few).some_part)
 
-  extended : cond (ltb 1 (length (pieces j))) true (extendedFor builder (length d)) ≡ ltb 1 (length (pieces j))
+  extended : cond (ltb 1 (length (pieces j))) true (extended_for builder (length d)) ≡ ltb 1 (length (pieces j))
   extended =
       let size = length-map (parts builder d j.buffer) piece_of in
-      flag_is (length (pieces j)) (extendedFor builder (length d)) some-piece
+      flag_is (length (pieces j)) (extended_for builder (length d)) some_piece
       (λ one.
-      let short = (cut-sends builder d j.buffer (buffer-in-scope j f) few).single (omega (arith, size)) in
-      (extended-read builder (length d)).short short (written-short builder refl) (λ e. cc))
+      let short = (cut_sends builder d j.buffer (buffer_in_scope j f) few).single (omega (arith, size)) in
+      (extended_read builder (length d)).short short (written_short builder refl) (λ e. cc))
 
   -- one reply for each piece
-  pub one_each : length (repliesTo j) ≡ length (pieces j)
-  one_each = one-reply-each j some-piece
+  pub one_each : length (replies_to j) ≡ length (pieces j)
+  one_each = one_reply_each j some_piece
 
   -- the pieces of a job, sent with no chain open
-  pub job-sent : (room : List ℕ) → HasRoom room j → run Closed room (pieces j) ≡ record { replies = repliesTo j; state = Closed; room = over d room }
-  unfolding repliesTo
-  job-sent room h =
-      command-back builder d j.buffer room (omega (arith, f.clear)) (not-ef j f)
-      (λ n e. let q : j.request.le ≡ n = cc in omega (arith, le-in-scope j f)) few (buffer-in-scope j f) (omega (arith, h))
-      ∙ rw (extended, le-back)
+  pub job_sent : (room : List ℕ) → HasRoom room j → run Closed room (pieces j) ≡ record { replies = replies_to j; state = Closed; room = over d room }
+  unfolding replies_to
+  job_sent room h =
+      command_back builder d j.buffer room (omega (arith, f.clear)) (not_ef j f)
+      (λ n e. let q : j.request.le ≡ n = cc in omega (arith, le_in_scope j f)) few (buffer_in_scope j f) (omega (arith, h))
+      ∙ rw (extended, le_back)

@@ -7,10 +7,10 @@ use lib.Seq.{take_at, drop_at}
 use Rattle.basis.specs.Reply.{refused}
 use Rattle.reassembler.specs.Join.{join_of}
 use Rattle.reassembler.specs.declared.Reassembler.{Reassembler}
-use Rattle.reassembler.proofs.Steps.{refused-kept}
-use Rattle.roundtrip_laws.specs.Run.{replyIn, replyTo, Run, replyThen, run}
-use Rattle.roundtrip_laws.specs.Noise.{Sent, piece, noise, allSent, piecesSent, repliesToPieces, RefusedThere}
-use Rattle.roundtrip_laws.proofs.Runs.{then, run-append, run-replies}
+use Rattle.reassembler.proofs.Steps.{refused_kept}
+use Rattle.roundtrip_laws.specs.Run.{reply_in, reply_to, Run, reply_then, run}
+use Rattle.roundtrip_laws.specs.Noise.{Sent, piece, noise, all_sent, pieces_sent, replies_to_pieces, RefusedThere}
+use Rattle.roundtrip_laws.proofs.Runs.{then, run_append, run_replies}
 
 -- one piece, put in anywhere between others and refused there: its reply is added at its place; the other replies, the
 -- state and the room are the same
@@ -27,80 +27,80 @@ unfolding run
 put_in r room ps qs p k e =
     let x = run r room ps in
     let o = join_of x.state x.room p in
-    let kept = refused-kept x.state x.room p k e in
+    let kept = refused_kept x.state x.room p k e in
     let same : run o.state o.room qs ≡ run x.state x.room qs = λ i. run (kept.0 i) (kept.1 i) qs in
     let rest = (run x.state x.room qs).replies in
-    run-append r room ps (p ∷ qs)
-    ∙ ap (λ (z : Run). then x (replyThen (replyTo o) z)) same
-    ∙ ap (λ a. then x (replyThen (replyIn a o.room) (run x.state x.room qs))) e
+    run_append r room ps (p ∷ qs)
+    ∙ ap (λ (z : Run). then x (reply_then (reply_to o) z)) same
+    ∙ ap (λ a. then x (reply_then (reply_in a o.room) (run x.state x.room qs))) e
     ∙ rw (
-      run-append r room ps qs,
-      take_at x.replies rest (length ps) (run-replies r room ps),
-      drop_at x.replies rest (length ps) (run-replies r room ps),
+      run_append r room ps qs,
+      take_at x.replies rest (length ps) (run_replies r room ps),
+      drop_at x.replies rest (length ps) (run_replies r room ps),
     )
 
 -- the first of many that were put in: the number it is refused with; and `RefusedThere` for it and the rest
-refusal-number : (r : Reassembler) (room p : List ℕ) (ss : List Sent) → RefusedThere r room (noise p ∷ ss) → (k : ℕ) × ((join_of r room p).reply ≡ refused k)
+refusal_number : (r : Reassembler) (room p : List ℕ) (ss : List Sent) → RefusedThere r room (noise p ∷ ss) → (k : ℕ) × ((join_of r room p).reply ≡ refused k)
 unfolding RefusedThere
-refusal-number r room p ss h = h.0
+refusal_number r room p ss h = h.0
 
-refused-first : (r : Reassembler) (room p : List ℕ) (ss : List Sent) → (k : ℕ) × ((join_of r room p).reply ≡ refused k)
+refused_first : (r : Reassembler) (room p : List ℕ) (ss : List Sent) → (k : ℕ) × ((join_of r room p).reply ≡ refused k)
     → RefusedThere (join_of r room p).state (join_of r room p).room ss → RefusedThere r room (noise p ∷ ss)
 unfolding RefusedThere
-refused-first r room p ss k rest = (k, rest)
+refused_first r room p ss k rest = (k, rest)
 
 -- many pieces, put in anywhere and refused there
-pub noise-nothing : (r : Reassembler) (room : List ℕ) (ss : List Sent) → RefusedThere r room ss
-    → let x = run r room (allSent ss) in
-    let y = run r room (piecesSent ss) in
-    (repliesToPieces ss x.replies ≡ y.replies) × (x.state ≡ y.state) × (x.room ≡ y.room)
+pub noise_nothing : (r : Reassembler) (room : List ℕ) (ss : List Sent) → RefusedThere r room ss
+    → let x = run r room (all_sent ss) in
+    let y = run r room (pieces_sent ss) in
+    (replies_to_pieces ss x.replies ≡ y.replies) × (x.state ≡ y.state) × (x.room ≡ y.room)
 unfolding run RefusedThere
-noise-nothing r room [] h = (refl, refl, refl)
-noise-nothing r room (piece p ∷ ss) h =
+noise_nothing r room [] h = (refl, refl, refl)
+noise_nothing r room (piece p ∷ ss) h =
     let o = join_of r room p in
-    let s = noise-nothing o.state o.room ss h in
-    (ap (λ rs. replyTo o ∷ rs) s.0, s.1, s.2)
-noise-nothing r room (noise p ∷ ss) h =
+    let s = noise_nothing o.state o.room ss h in
+    (ap (λ rs. reply_to o ∷ rs) s.0, s.1, s.2)
+noise_nothing r room (noise p ∷ ss) h =
     let o = join_of r room p in
-    let kept = refused-kept r room p _ (refusal-number r room p ss h).1 in
-    let same : run o.state o.room (piecesSent ss) ≡ run r room (piecesSent ss) = λ i. run (kept.0 i) (kept.1 i) (piecesSent ss) in
-    let s = noise-nothing o.state o.room ss h.1 in (
+    let kept = refused_kept r room p _ (refusal_number r room p ss h).1 in
+    let same : run o.state o.room (pieces_sent ss) ≡ run r room (pieces_sent ss) = λ i. run (kept.0 i) (kept.1 i) (pieces_sent ss) in
+    let s = noise_nothing o.state o.room ss h.1 in (
       s.0 ∙ ap (λ (x : Run). x.replies) same,
       s.1 ∙ ap (λ (x : Run). x.state) same,
       s.2 ∙ ap (λ (x : Run). x.room) same,
     )
 
 -- what `RefusedThere` asks: the reply to each piece put in, at its place, is `refused k` for some k
-pub refused-there : (r : Reassembler) (room : List ℕ) (ss : List Sent)
+pub refused_there : (r : Reassembler) (room : List ℕ) (ss : List Sent)
     → ((before after : List Sent) (p : List ℕ) → ss ≡ before ++ (noise p ∷ after)
-    → let x = run r room (allSent before) in (k : ℕ) × ((join_of x.state x.room p).reply ≡ refused k))
+    → let x = run r room (all_sent before) in (k : ℕ) × ((join_of x.state x.room p).reply ≡ refused k))
     → RefusedThere r room ss
 unfolding run RefusedThere
-refused-there r room [] h = tt
-refused-there r room (piece p ∷ ss) h =
+refused_there r room [] h = tt
+refused_there r room (piece p ∷ ss) h =
     let o = join_of r room p in
-    refused-there o.state o.room ss (λ before after q e. h (piece p ∷ before) after q (ap (λ l. piece p ∷ l) e))
-refused-there r room (noise p ∷ ss) h =
+    refused_there o.state o.room ss (λ before after q e. h (piece p ∷ before) after q (ap (λ l. piece p ∷ l) e))
+refused_there r room (noise p ∷ ss) h =
     let o = join_of r room p in
-    refused-first r room p ss (h [] ss p refl)
-    (refused-there o.state o.room ss (λ before after q e. h (noise p ∷ before) after q (ap (λ l. noise p ∷ l) e)))
+    refused_first r room p ss (h [] ss p refl)
+    (refused_there o.state o.room ss (λ before after q e. h (noise p ∷ before) after q (ap (λ l. noise p ∷ l) e)))
 
--- a piece of a command is in `allSent` and in `piecesSent`, at its place; one that was put in is in `allSent` only
-all-sent-append : (ss ts : List Sent) → allSent (ss ++ ts) ≡ allSent ss ++ allSent ts
-all-sent-append [] ts = refl
-all-sent-append (piece p ∷ ss) ts = ap (λ l. p ∷ l) (all-sent-append ss ts)
-all-sent-append (noise p ∷ ss) ts = ap (λ l. p ∷ l) (all-sent-append ss ts)
+-- a piece of a command is in `all_sent` and in `pieces_sent`, at its place; one that was put in is in `all_sent` only
+all_sent_append : (ss ts : List Sent) → all_sent (ss ++ ts) ≡ all_sent ss ++ all_sent ts
+all_sent_append [] ts = refl
+all_sent_append (piece p ∷ ss) ts = ap (λ l. p ∷ l) (all_sent_append ss ts)
+all_sent_append (noise p ∷ ss) ts = ap (λ l. p ∷ l) (all_sent_append ss ts)
 
-pieces-sent-append : (ss ts : List Sent) → piecesSent (ss ++ ts) ≡ piecesSent ss ++ piecesSent ts
-pieces-sent-append [] ts = refl
-pieces-sent-append (piece p ∷ ss) ts = ap (λ l. p ∷ l) (pieces-sent-append ss ts)
-pieces-sent-append (noise p ∷ ss) ts = pieces-sent-append ss ts
+pieces_sent_append : (ss ts : List Sent) → pieces_sent (ss ++ ts) ≡ pieces_sent ss ++ pieces_sent ts
+pieces_sent_append [] ts = refl
+pieces_sent_append (piece p ∷ ss) ts = ap (λ l. p ∷ l) (pieces_sent_append ss ts)
+pieces_sent_append (noise p ∷ ss) ts = pieces_sent_append ss ts
 
 module _ (before after : List Sent) (p : List ℕ) where
-  pub piece-in-both : (allSent (before ++ (piece p ∷ after)) ≡ allSent before ++ (p ∷ allSent after))
-      × (piecesSent (before ++ (piece p ∷ after)) ≡ piecesSent before ++ (p ∷ piecesSent after))
-  piece-in-both = (all-sent-append before (piece p ∷ after), pieces-sent-append before (piece p ∷ after))
+  pub piece_in_both : (all_sent (before ++ (piece p ∷ after)) ≡ all_sent before ++ (p ∷ all_sent after))
+      × (pieces_sent (before ++ (piece p ∷ after)) ≡ pieces_sent before ++ (p ∷ pieces_sent after))
+  piece_in_both = (all_sent_append before (piece p ∷ after), pieces_sent_append before (piece p ∷ after))
 
-  pub noise-in-all : (allSent (before ++ (noise p ∷ after)) ≡ allSent before ++ (p ∷ allSent after))
-      × (piecesSent (before ++ (noise p ∷ after)) ≡ piecesSent before ++ piecesSent after)
-  noise-in-all = (all-sent-append before (noise p ∷ after), pieces-sent-append before (noise p ∷ after))
+  pub noise_in_all : (all_sent (before ++ (noise p ∷ after)) ≡ all_sent before ++ (p ∷ all_sent after))
+      × (pieces_sent (before ++ (noise p ∷ after)) ≡ pieces_sent before ++ pieces_sent after)
+  noise_in_all = (all_sent_append before (noise p ∷ after), pieces_sent_append before (noise p ∷ after))

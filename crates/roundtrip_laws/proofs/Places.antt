@@ -9,12 +9,12 @@ use lib.ListN.{length, get_or, replicate, length-append, length-replicate, get_o
 use lib.Seq.{get_or-append-add, get_or_at}
 use Rattle.basis.specs.Every.{Every}
 use Rattle.basis.specs.Reply.{Reply, ok, refused}
-use Rattle.basis.proofs.Every.{every-at}
+use Rattle.basis.proofs.Every.{every_at}
 use Rattle.reassembler.specs.declared.Reassembler.TheVariants.{Closed}
 use Rattle.roundtrip_laws.specs.Run.{CommandBack, Run, run}
-use Rattle.roundtrip_laws.specs.Jobs.{Job, InScope, HasRoom, pieces, stream, commandBackTo, repliesTo, allReplies}
-use Rattle.roundtrip_laws.proofs.Runs.{run-replies}
-use Rattle.roundtrip_laws.proofs.Jobs.{some-piece, one_each}
+use Rattle.roundtrip_laws.specs.Jobs.{Job, InScope, HasRoom, pieces, stream, command_back_to, replies_to, all_replies}
+use Rattle.roundtrip_laws.proofs.Runs.{run_replies}
+use Rattle.roundtrip_laws.proofs.Jobs.{some_piece, one_each}
 use Rattle.roundtrip_laws.proofs.Demand3.{given_back}
 
 -- a list l that is n elements, then k times a, then b, read by places
@@ -38,11 +38,11 @@ flat_append f (x ∷ xs) ys =
     ap (λ l. f x ++ l) (flat_append f xs ys) ∙ sym (append_assoc (f x) (flat_map f xs) (flat_map f ys))
 
 -- as many replies as pieces, for the jobs js before others
-as-many-replies : (js ks : List Job) → Every InScope (js ++ ks) → length (allReplies js) ≡ length (stream js)
+as_many_replies : (js ks : List Job) → Every InScope (js ++ ks) → length (all_replies js) ≡ length (stream js)
 unfolding flat_map
-as-many-replies [] ks f = refl
-as-many-replies (j ∷ js) ks f =
-    simp length-append (omega (arith, one_each j f.0, as-many-replies js ks f.1))
+as_many_replies [] ks f = refl
+as_many_replies (j ∷ js) ks f =
+    simp length-append (omega (arith, one_each j f.0, as_many_replies js ks f.1))
 
 -- There is one reply for each piece. A job, wherever it is in the list, has at least one piece. The reply to each of
 -- them but the last is "more". The reply to the last is the command of the request, extended if there were several
@@ -52,15 +52,15 @@ module _ (before after : List Job) (j : Job) (room : List ℕ) (f : Every InScop
   abbrev sent : List (Reply (Option CommandBack))
   sent = (run Closed room (stream (before ++ (j ∷ after)))).replies
 
-  sent_is : sent ≡ allReplies before ++ (replicate (length (pieces j) - 1) (ok none) ++ (ok (some (commandBackTo j)) ∷ allReplies after))
-  unfolding flat_map repliesTo
+  sent_is : sent ≡ all_replies before ++ (replicate (length (pieces j) - 1) (ok none) ++ (ok (some (command_back_to j)) ∷ all_replies after))
+  unfolding flat_map replies_to
   sent_is =
       ap (λ (x : Run). x.replies) (given_back (before ++ (j ∷ after)) room f h)
-      ∙ flat_append repliesTo before (j ∷ after)
-      ∙ ap (λ l. allReplies before ++ l)
-      (append_assoc (replicate (length (pieces j) - 1) (ok none)) (ok (some (commandBackTo j)) ∷ []) (allReplies after))
+      ∙ flat_append replies_to before (j ∷ after)
+      ∙ ap (λ l. all_replies before ++ l)
+      (append_assoc (replicate (length (pieces j) - 1) (ok none)) (ok (some (command_back_to j)) ∷ []) (all_replies after))
 
-  pub each-at-its-last : let first = length (stream before) in
+  pub each_at_its_last : let first = length (stream before) in
       let n = length (pieces j) in
       let w = j.request in
       (length sent ≡ length (stream (before ++ (j ∷ after))))
@@ -82,14 +82,14 @@ module _ (before after : List Job) (j : Job) (room : List ℕ) (f : Every InScop
             };
         «data» = w.«data»;
       })))
-  each-at-its-last =
+  each_at_its_last =
       let n = length (pieces j) in
       let first = length (stream before) in
-      let before-it = allReplies before in
-      let after-it = allReplies after in
-      let size = as-many-replies before (j ∷ after) f in (
-        run-replies Closed room (stream (before ++ (j ∷ after))),
-        some-piece j (every-at InScope before after j f),
-        (λ i g. at_more sent before-it after-it (n - 1) first (ok none) (ok (some (commandBackTo j))) (refused 0) sent_is size i (omega (arith, g))),
-        at_last sent before-it after-it (n - 1) first (ok none) (ok (some (commandBackTo j))) (refused 0) sent_is size (n - 1) (omega arith),
+      let before-it = all_replies before in
+      let after-it = all_replies after in
+      let size = as_many_replies before (j ∷ after) f in (
+        run_replies Closed room (stream (before ++ (j ∷ after))),
+        some_piece j (every_at InScope before after j f),
+        (λ i g. at_more sent before-it after-it (n - 1) first (ok none) (ok (some (command_back_to j))) (refused 0) sent_is size i (omega (arith, g))),
+        at_last sent before-it after-it (n - 1) first (ok none) (ok (some (command_back_to j))) (refused 0) sent_is size (n - 1) (omega arith),
       )

@@ -12,23 +12,23 @@ pub data Sent : Type 0 where
   noise : List ℕ → Sent
 
 -- everything that is sent
-abbrev pub allSent : List Sent → List (List ℕ)
-allSent [] = []
-allSent (piece p ∷ ss) = p ∷ allSent ss
-allSent (noise p ∷ ss) = p ∷ allSent ss
+abbrev pub all_sent : List Sent → List (List ℕ)
+all_sent [] = []
+all_sent (piece p ∷ ss) = p ∷ all_sent ss
+all_sent (noise p ∷ ss) = p ∷ all_sent ss
 
 -- the same without what was put in
-abbrev pub piecesSent : List Sent → List (List ℕ)
-piecesSent [] = []
-piecesSent (piece p ∷ ss) = p ∷ piecesSent ss
-piecesSent (noise p ∷ ss) = piecesSent ss
+abbrev pub pieces_sent : List Sent → List (List ℕ)
+pieces_sent [] = []
+pieces_sent (piece p ∷ ss) = p ∷ pieces_sent ss
+pieces_sent (noise p ∷ ss) = pieces_sent ss
 
 -- from the replies to everything that is sent, those to the pieces of commands
-abbrev pub repliesToPieces : List Sent → List (Reply (Option CommandBack)) → List (Reply (Option CommandBack))
-repliesToPieces [] rs = []
-repliesToPieces (s ∷ ss) [] = []
-repliesToPieces (piece p ∷ ss) (r ∷ rs) = r ∷ repliesToPieces ss rs
-repliesToPieces (noise p ∷ ss) (r ∷ rs) = repliesToPieces ss rs
+abbrev pub replies_to_pieces : List Sent → List (Reply (Option CommandBack)) → List (Reply (Option CommandBack))
+replies_to_pieces [] rs = []
+replies_to_pieces (s ∷ ss) [] = []
+replies_to_pieces (piece p ∷ ss) (r ∷ rs) = r ∷ replies_to_pieces ss rs
+replies_to_pieces (noise p ∷ ss) (r ∷ rs) = replies_to_pieces ss rs
 
 -- each piece that was put in is refused at its place in the series, with any number
 unfoldable pub RefusedThere : Reassembler → List ℕ → List Sent → Type 0

@@ -12,14 +12,14 @@ pub record CommandBack : Type 0 where
   pub «data» : List ℕ
 
 -- what a caller gets: more (none), a command with its data, or a refusal
-abbrev pub replyIn : Reply (Option Command) → List ℕ → Reply (Option CommandBack)
-replyIn (ok none) room = ok none
-replyIn (ok (some c)) room = ok (some (record { command = c; «data» = take c.len room }))
-replyIn (refused k) room = refused k
+abbrev pub reply_in : Reply (Option Command) → List ℕ → Reply (Option CommandBack)
+reply_in (ok none) room = ok none
+reply_in (ok (some c)) room = ok (some (record { command = c; «data» = take c.len room }))
+reply_in (refused k) room = refused k
 
 -- the same, of an outcome
-abbrev pub replyTo : Outcome → Reply (Option CommandBack)
-replyTo o = replyIn o.reply o.room
+abbrev pub reply_to : Outcome → Reply (Option CommandBack)
+reply_to o = reply_in o.reply o.room
 
 -- the replies to the pieces, one for each, and the state and the room after all of them
 pub record Run : Type 0 where
@@ -28,10 +28,10 @@ pub record Run : Type 0 where
   pub room : List ℕ
 
 -- a reply, and the run after it
-abbrev pub replyThen : Reply (Option CommandBack) → Run → Run
-replyThen x r = record { replies = x ∷ r.replies; state = r.state; room = r.room }
+abbrev pub reply_then : Reply (Option CommandBack) → Run → Run
+reply_then x r = record { replies = x ∷ r.replies; state = r.state; room = r.room }
 
 -- the run of pieces that begins in the state r
 unfoldable pub run : Reassembler → List ℕ → List (List ℕ) → Run
 run r room [] = record { replies = []; state = r; room = room }
-run r room (p ∷ ps) = replyThen (replyTo (join_of r room p)) (run (join_of r room p).state (join_of r room p).room ps)
+run r room (p ∷ ps) = reply_then (reply_to (join_of r room p)) (run (join_of r room p).state (join_of r room p).room ps)

@@ -1,11 +1,11 @@
 -- Laws of cutting a command. They rest on the promise of the builder, that is on its length and bytes, and on its laws
--- (`required-is`, `value-few`, `refusal-many`, `few-enough`, `too_many`, `lengths-few`), and unfold none of its
+-- (`required_is`, `value_few`, `refusal_many`, `few_enough`, `too_many`, `lengths_few`), and unfold none of its
 -- definitions (rule 12.10).
---   room-is, room-not-zero (Steps): the room, and that it is not empty for a buffer of 10 bytes or more.
---   step-long, step-small, step-whole, step-no-room, step-split (Steps): what one step replies, case by case.
---   never-refused (Steps): with a buffer of 10 bytes and at most 65,535 data bytes no step is refused.
---   step-fewer, left-inside, next-inside (Inside): a part is shorter than the data left, and a piece lies in the data.
---   should-split, new-non-extended, next, write-next (OneReply): each promise allows one reply.
+--   room_is, room_not_zero (Steps): the room, and that it is not empty for a buffer of 10 bytes or more.
+--   step_long, step-small, step_whole, step_no_room, step_split (Steps): what one step replies, case by case.
+--   never_refused (Steps): with a buffer of 10 bytes and at most 65,535 data bytes no step is refused.
+--   step-fewer, left_inside, next_inside (Inside): a part is shorter than the data left, and a piece lies in the data.
+--   should_split, new_non_extended, next, write_next (OneReply): each promise allows one reply.
 pub mod Steps
 pub mod Inside
 pub mod OneReply

@@ -3,8 +3,8 @@ use Rattle.std.specs.Prelude.{ℕ, ◌+◌, ◌-◌, min, ◌≡◌, cond, List,
 use Rattle.std.proofs.Math.Option.{Option, none, some}
 use Rattle.basis.specs.Reply.{Reply, ok, refused}
 use Rattle.class.specs.Chain.{chained}
-use Rattle.builder.specs.Builder.{unlessLong}
-use Rattle.builder.specs.Bytes.{loweredOf, lcLen, leLen}
+use Rattle.builder.specs.Builder.{unless_long}
+use Rattle.builder.specs.Bytes.{lowered_of, lc_len, le_len}
 use Rattle.builder.specs.declared.CommandBuilder.{CommandBuilder}
 use Rattle.builder.specs.declared.ExpectedLen.TheVariants.{Ne}
 use Rattle.builder.specs.declared.ExtendedLen.{ExtendedLen}
@@ -14,18 +14,18 @@ use Rattle.splitter.specs.declared.step.ShouldSplit.{ShouldSplit}
 use Rattle.splitter.specs.declared.step.ShouldSplit.TheVariants as should
 
 -- the most data bytes of a part: 255 in short mode, else 65,535 (rule 4.1)
-abbrev pub mostData : ExtendedLen → ℕ
-mostData Unsupported = 255
-mostData Supported = 65535
-mostData Forced = 65535
+abbrev pub most_data : ExtendedLen → ℕ
+most_data Unsupported = 255
+most_data Supported = 65535
+most_data Forced = 65535
 
 -- the room for data in a buffer of m bytes, next to x other bytes: not below 0 (rule 4.1)
-unfoldable pub roomIn : ExtendedLen → ℕ → ℕ → ℕ
-roomIn mode x m = min (m - x) (mostData mode)
+unfoldable pub room_in : ExtendedLen → ℕ → ℕ → ℕ
+room_in mode x m = min (m - x) (most_data mode)
 
 -- the same with n data bytes left: the other bytes are the header, and Lc and Le for all of them (rules 4.1 and 4.2)
-unfoldable pub roomOf : CommandBuilder → ℕ → ℕ → ℕ
-roomOf b n m = roomIn b.mode (4 + lcLen b n + leLen b n) m
+unfoldable pub room_of : CommandBuilder → ℕ → ℕ → ℕ
+room_of b n m = room_in b.mode (4 + lc_len b n + le_len b n) m
 
 -- the first part: class bit 0x10 set and Le 0, else as the command (rule 4.4)
 abbrev pub first_of : CommandBuilder → CommandBuilder
@@ -44,17 +44,17 @@ first_of b =
 -- 4.5)
 unfoldable pub step_of : CommandBuilder → ℕ → ℕ → Reply (Option Split)
 step_of b n m =
-    unlessLong n
+    unless_long n
     (cond (ltb m 4) (refused 14)
-    (cond (leb n (roomOf b n m)) (ok none)
-    (cond (eqb (roomOf b n m) 0) (refused 14) (ok (some (record { first = first_of b; len = roomOf b n m; rest = loweredOf b }))))))
+    (cond (leb n (room_of b n m)) (ok none)
+    (cond (eqb (room_of b n m) 0) (refused 14) (ok (some (record { first = first_of b; len = room_of b n m; rest = lowered_of b }))))))
 
 -- an answer as a reply
-abbrev pub asReply : ShouldSplit → Reply (Option Split)
-asReply should.Whole = ok none
-asReply (should.Split s) = ok (some s)
-asReply (should.Refused k) = refused k
+abbrev pub as_reply : ShouldSplit → Reply (Option Split)
+as_reply should.Whole = ok none
+as_reply (should.Split s) = ok (some s)
+as_reply (should.Refused k) = refused k
 
 -- the promise of `should_split`
-abbrev pub should-split-is : CommandBuilder → List ℕ → ℕ → ShouldSplit → Type 0
-should-split-is b d m x = asReply x ≡ step_of b (length d) m
+abbrev pub ShouldSplitIs : CommandBuilder → List ℕ → ℕ → ShouldSplit → Type 0
+ShouldSplitIs b d m x = as_reply x ≡ step_of b (length d) m

@@ -1,7 +1,7 @@
 // The pieces of a command in short mode, one at a time. Rules 4.7 to 4.10.
 // Ported, with changes, from src/command.rs of the crate iso7816 0.2.2 (see NOTICE).
 ghost use Rattle.std.specs.Prelude.{◌≡◌, ◌+◌, ◌≤◌, ◌<◌, min, length};
-ghost use Rattle.splitter.specs.Pieces.{piecesAfter, nextLeftOf, next-left-is, new-pieces-is, next-is, write-piece-is, write-next-is};
+ghost use Rattle.splitter.specs.Pieces.{pieces_after, next_left_of, NextLeftIs, NewPiecesIs, NextIs, WritePieceIs, WriteNextIs};
 
 use crate::step::{ShouldSplit, Split, should_split};
 use builder::{Built, CommandBuilder, ExpectedLen, ExtendedLen, Length};
@@ -70,7 +70,7 @@ fn place(at: usize, end: usize) -> usize
 // The pieces after a part that was split off.
 fn pieces_after(split: Split, at: usize, available: usize) -> Pieces
     requires { at + split.len < 0x10000000000000000 }
-    ensures { result ≡ piecesAfter split at available }
+    ensures { result ≡ pieces_after split at available }
 {
     let builder = split.rest;
     Pieces::Left(Left {
@@ -83,7 +83,7 @@ fn pieces_after(split: Split, at: usize, available: usize) -> Pieces
 // The next piece of what is left, in data of at most 65,535 bytes: one step of splitting (rule 4.8).
 fn next_left(left: Left, data: &[u8]) -> NextPiece
     requires { length «data».now ≤ 65535 }
-    ensures { next-left-is (nextLeftOf left «data».now) result }
+    ensures { NextLeftIs (next_left_of left «data».now) result }
 {
     let at = place(left.at, data.len());
     let builder = left.builder;
@@ -115,7 +115,7 @@ fn next_left(left: Left, data: &[u8]) -> NextPiece
 // Writes a piece into a buffer from a place (rule 4.10).
 fn write_piece(piece: Piece, data: &[u8], buffer: &mut [u8], at: usize) -> WriteNext
     requires { piece.at + piece.len ≤ length «data».now }
-    ensures { write-piece-is piece «data».now buffer.old at result buffer.new }
+    ensures { WritePieceIs piece «data».now buffer.old at result buffer.new }
 {
     let start = piece.at;
     let end = start + piece.len;
@@ -140,7 +140,7 @@ impl Pieces {
         le: u16,
         available: usize,
     ) -> NewPieces
-        ensures { new-pieces-is class instruction p1 p2 «data».now le available result }
+        ensures { NewPiecesIs class instruction p1 p2 «data».now le available result }
     {
         let short = ExtendedLen::Unsupported;
         let expected = ExpectedLen::Ne(le);
@@ -162,7 +162,7 @@ impl Pieces {
 
     // The next piece, in the data that each call is given again; none left after the last one (rules 4.8 and 4.9).
     pub fn next(self, data: &[u8]) -> NextPiece
-        ensures { next-is self «data».now result }
+        ensures { NextIs self «data».now result }
     {
         match self {
             Pieces::Done => NextPiece::NoneLeft,
@@ -177,7 +177,7 @@ impl Pieces {
 
     // Writes the next piece into a buffer from a place. Bytes before it and after it stay (rule 4.10).
     pub fn write_next(self, data: &[u8], buffer: &mut [u8], at: usize) -> WriteNext
-        ensures { write-next-is self «data».now buffer.old at result buffer.new }
+        ensures { WriteNextIs self «data».now buffer.old at result buffer.new }
     {
         match self.next(data) {
             NextPiece::Refused(k) => WriteNext::Refused(k),

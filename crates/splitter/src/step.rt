@@ -1,7 +1,7 @@
 // One step of splitting. Rules 4.1 to 4.6.
 // Ported, with changes, from src/command.rs of the crate iso7816 0.2.2 (see NOTICE).
 ghost use Rattle.std.specs.Prelude.{◌≡◌};
-ghost use Rattle.splitter.specs.Step.{mostData, roomIn, first_of, should-split-is};
+ghost use Rattle.splitter.specs.Step.{most_data, room_in, first_of, ShouldSplitIs};
 
 use builder::{CommandBuilder, ExpectedLen, ExtendedLen, Length};
 
@@ -24,7 +24,7 @@ pub enum ShouldSplit {
 
 // The most data bytes of a part: 255 in short mode, else 65,535 (rule 4.1).
 fn most_data(mode: ExtendedLen) -> usize
-    ensures { result ≡ mostData mode }
+    ensures { result ≡ most_data mode }
 {
     match mode {
         ExtendedLen::Unsupported => 255,
@@ -35,7 +35,7 @@ fn most_data(mode: ExtendedLen) -> usize
 
 // The room for data in a buffer, next to this many other bytes; not below 0 (rule 4.1).
 fn room(mode: ExtendedLen, extra: usize, available: usize) -> usize
-    ensures { result ≡ roomIn mode extra available }
+    ensures { result ≡ room_in mode extra available }
 {
     if available < extra {
         return 0;
@@ -66,7 +66,7 @@ fn first(builder: CommandBuilder) -> CommandBuilder
 // Whether a command with these data fits a buffer of this many bytes, and its two parts if it does not. The room counts
 // the bytes of Lc and Le for all remaining data, extended ones if they are over 255 bytes (rules 4.2 to 4.6).
 pub fn should_split(builder: CommandBuilder, data: &[u8], available: usize) -> ShouldSplit
-    ensures { should-split-is builder «data».now available result }
+    ensures { ShouldSplitIs builder «data».now available result }
 {
     match builder.required_len(data) {
         Length::Refused(k) => ShouldSplit::Refused(k),

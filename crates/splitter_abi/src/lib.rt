@@ -2,10 +2,10 @@
 // Each function replies 0, or the number of a refusal. Numbers are written into the slice `out` only if it replies 0.
 ghost use Rattle.std.specs.Prelude.{◌≡◌};
 ghost use Rattle.abi.specs.Answers.{NumbersWritten};
-ghost use Rattle.splitter.specs.Step.{asReply as splitAsReply};
-ghost use Rattle.splitter.specs.Pieces.{newAsReply, writeAsReply};
-ghost use Rattle.splitter_abi.specs.Numbers.{splitting, shouldSplitReply, new-non-extended-is, fromPlace, piecesByNumbers};
-ghost use Rattle.splitter_abi.specs.Numbers.{pieceReply, writtenReply, PieceWritten};
+ghost use Rattle.splitter.specs.Step.{as_reply as splitAsReply};
+ghost use Rattle.splitter.specs.Pieces.{new_as_reply, write_as_reply};
+ghost use Rattle.splitter_abi.specs.Numbers.{splitting, should_split_reply, NewNonExtendedIs, from_place, pieces_by_numbers};
+ghost use Rattle.splitter_abi.specs.Numbers.{piece_reply, written_reply, PieceWritten};
 
 use abi::{builder_by_numbers, expected_len_number, refusal_status, write_numbers};
 use builder::Built;
@@ -55,7 +55,7 @@ pub extern "C" fn gorvisclen_should_split(
     available: usize,
     out: &mut [u64],
 ) -> u8
-    ensures { NumbersWritten 6 (shouldSplitReply class instruction p1 p2 le mode «data».now available) out.old result
+    ensures { NumbersWritten 6 (should_split_reply class instruction p1 p2 le mode «data».now available) out.old result
         out.new }
 {
     match builder_by_numbers(class, instruction, p1, p2, le, mode, data) {
@@ -78,7 +78,7 @@ pub extern "C" fn gorvisclen_new_non_extended(
     le: u16,
     available: usize,
 ) -> u8
-    ensures { new-non-extended-is class instruction p1 p2 «data».now le available result }
+    ensures { NewNonExtendedIs class instruction p1 p2 «data».now le available result }
 {
     match Pieces::new_non_extended(class, instruction, p1, p2, data, le, available) {
         NewPieces::Refused(k) => k,
@@ -88,7 +88,7 @@ pub extern "C" fn gorvisclen_new_non_extended(
 
 // The pieces that are left from a place of the data on.
 fn from_place(pieces: Pieces, place: usize) -> Pieces
-    ensures { result ≡ fromPlace place pieces }
+    ensures { result ≡ from_place place pieces }
 {
     match pieces {
         Pieces::Done => Pieces::Done,
@@ -115,7 +115,7 @@ fn pieces_by_numbers(
     done: u8,
     data: &[u8],
 ) -> NewPieces
-    ensures { newAsReply result ≡ piecesByNumbers class instruction p1 p2 le available place done «data».now }
+    ensures { new_as_reply result ≡ pieces_by_numbers class instruction p1 p2 le available place done «data».now }
 {
     if done != 0 {
         return NewPieces::Pieces(Pieces::Done);
@@ -128,7 +128,7 @@ fn pieces_by_numbers(
 
 // Writes the numbers of a piece and of what is left after it, zeros if nothing is.
 fn write_piece(written: Written, out: &mut [u64]) -> u8
-    ensures { NumbersWritten 5 (pieceReply written) out.old result out.new }
+    ensures { NumbersWritten 5 (piece_reply written) out.old result out.new }
 {
     let rest = written.rest;
     match rest {
@@ -153,7 +153,7 @@ fn write_piece(written: Written, out: &mut [u64]) -> u8
 
 // Writes the numbers of the next piece, zeros if none is left.
 fn write_written(answer: WriteNext, out: &mut [u64]) -> u8
-    ensures { NumbersWritten 5 (writtenReply (writeAsReply answer)) out.old result out.new }
+    ensures { NumbersWritten 5 (written_reply (write_as_reply answer)) out.old result out.new }
 {
     match answer {
         WriteNext::Refused(k) => refusal_status(k, out.len(), 5),
@@ -182,7 +182,7 @@ pub extern "C" fn gorvisclen_write_next(
     at: usize,
     out: &mut [u64],
 ) -> u8
-    ensures { PieceWritten (piecesByNumbers class instruction p1 p2 le available place done «data».now)
+    ensures { PieceWritten (pieces_by_numbers class instruction p1 p2 le available place done «data».now)
         «data».now at buffer.old out.old result buffer.new out.new }
 {
     match pieces_by_numbers(class, instruction, p1, p2, le, available, place, done, data) {

@@ -8,11 +8,11 @@ use native.Mathlib.Omega.{arith}
 use lib.ListN.{length, take, drop, length-take, length-drop}
 use Rattle.basis.specs.Reply.{ok}
 use Rattle.basis.specs.Over.{over}
-use Rattle.basis.proofs.Over.{over-at-zero}
-use Rattle.builder.specs.Bytes.{serializeOf}
+use Rattle.basis.proofs.Over.{over_at_zero}
+use Rattle.builder.specs.Bytes.{serialize_of}
 use Rattle.builder.proofs.Fitting.{fits}
-use Rattle.builder.proofs.Lengths.{length-command}
-use Rattle.splitter.specs.Pieces.{next_of, bytes_of, writeOf, pieceIn, bufferAfter}
+use Rattle.builder.proofs.Lengths.{length_command}
+use Rattle.splitter.specs.Pieces.{next_of, bytes_of, write_of, piece_in, buffer_after}
 use Rattle.splitter.specs.declared.pieces.Piece.{Piece}
 use Rattle.splitter.specs.declared.pieces.Pieces.{Pieces}
 
@@ -22,14 +22,14 @@ module _ (c : Pieces) (d buffer : List ℕ) (p : Piece) (few : length d ≤ 6553
   abbrev part : List ℕ
   part = take p.len (drop p.at d)
 
-  fitted : serializeOf p.builder part (length buffer) 0 ≡ ok (length (bytes_of p d))
+  fitted : serialize_of p.builder part (length buffer) 0 ≡ ok (length (bytes_of p d))
   fitted =
       let size : length part ≤ 65535 = omega (arith, length-take p.len (drop p.at d), length-drop p.at d) in
-      let long = length-command p.builder part in
+      let long = length_command p.builder part in
       fits p.builder part (length buffer) 0 size (omega (arith, long)) ∙ ap ok (omega (arith, long))
 
-  pub piece-written : writeOf c d (length buffer) 0 ≡ ok (some (record { len = length (bytes_of p d); rest = p.rest }))
-  piece-written = rw (next, fitted)
+  pub piece_written : write_of c d (length buffer) 0 ≡ ok (some (record { len = length (bytes_of p d); rest = p.rest }))
+  piece_written = rw (next, fitted)
 
-  pub piece-in-buffer : bufferAfter (writeOf c d (length buffer) 0) (pieceIn (next_of c d) d) buffer 0 ≡ over (bytes_of p d) buffer
-  piece-in-buffer = rw (piece-written, next) (over-at-zero (bytes_of p d) buffer)
+  pub piece_in_buffer : buffer_after (write_of c d (length buffer) 0) (piece_in (next_of c d) d) buffer 0 ≡ over (bytes_of p d) buffer
+  piece_in_buffer = rw (piece_written, next) (over_at_zero (bytes_of p d) buffer)

@@ -27,33 +27,33 @@ pub record PiecesMade (c i p q n e m : ℕ) (left : Pieces) : Type 0 where
   pub start : left ≡ start_of c i p q e m
 
 -- an answer by the bytes of its piece
-abbrev pub bytesIn : Reply (Option Piece) → List ℕ → Reply (Option (List ℕ))
-bytesIn (ok (some p)) d = ok (some (bytes_of p d))
-bytesIn (ok none) d = ok none
-bytesIn (refused k) d = refused k
+abbrev pub bytes_in : Reply (Option Piece) → List ℕ → Reply (Option (List ℕ))
+bytes_in (ok (some p)) d = ok (some (bytes_of p d))
+bytes_in (ok none) d = ok none
+bytes_in (refused k) d = refused k
 
 -- what is left after an answer: the same if there was no piece
-abbrev pub nextPieces : Pieces → Reply (Option Piece) → Pieces
-nextPieces c (ok (some p)) = p.rest
-nextPieces c (ok none) = c
-nextPieces c (refused k) = c
+abbrev pub next_pieces : Pieces → Reply (Option Piece) → Pieces
+next_pieces c (ok (some p)) = p.rest
+next_pieces c (ok none) = c
+next_pieces c (refused k) = c
 
 -- the answers to k questions, one after the other
 unfoldable pub answers : ℕ → Pieces → List ℕ → List (Reply (Option (List ℕ)))
 answers zero c d = []
-answers (suc k) c d = bytesIn (next_of c d) d ∷ answers k (nextPieces c (next_of c d)) d
+answers (suc k) c d = bytes_in (next_of c d) d ∷ answers k (next_pieces c (next_of c d)) d
 
 -- these pieces, one by one, and then j times none
-abbrev pub oneByOne : List (List ℕ) → ℕ → List (Reply (Option (List ℕ)))
-oneByOne ps j = map (λ p. ok (some p)) ps ++ replicate j (ok none)
+abbrev pub one_by_one : List (List ℕ) → ℕ → List (Reply (Option (List ℕ)))
+one_by_one ps j = map (λ p. ok (some p)) ps ++ replicate j (ok none)
 
 -- the pieces among answers, up to the first answer without one
-abbrev pub piecesAmong : List (Reply (Option (List ℕ))) → List (List ℕ)
-piecesAmong [] = []
-piecesAmong (ok (some p) ∷ rs) = p ∷ piecesAmong rs
-piecesAmong (ok none ∷ rs) = []
-piecesAmong (refused k ∷ rs) = []
+abbrev pub pieces_among : List (Reply (Option (List ℕ))) → List (List ℕ)
+pieces_among [] = []
+pieces_among (ok (some p) ∷ rs) = p ∷ pieces_among rs
+pieces_among (ok none ∷ rs) = []
+pieces_among (refused k ∷ rs) = []
 
 -- the pieces among the answers to k questions
 abbrev pub collected : ℕ → Pieces → List ℕ → List (List ℕ)
-collected k c d = piecesAmong (answers k c d)
+collected k c d = pieces_among (answers k c d)

@@ -6,39 +6,39 @@ use native.Mathlib.Omega.{arith}
 use lib.ListN.{length, drop, length-take, length-drop}
 use lib.Seq.{drop-drop}
 use Rattle.basis.specs.Reply.{ok, refused}
-use Rattle.basis.proofs.Over.{drop-take}
+use Rattle.basis.proofs.Over.{drop_take}
 use Rattle.tlv.specs.Padding.{padding}
-use Rattle.tlv.specs.Object.{Object, objectOf, Item, item_at, placed, next_of, size_of}
+use Rattle.tlv.specs.Object.{Object, object_of, Item, item_at, placed, next_of, size_of}
 use Rattle.tlv.specs.Lookup.{between, part, seek}
 use Rattle.tlv.specs.declared.Reading.{Reading}
-use Rattle.tlv.proofs.Zeros.{padding-within}
-use Rattle.tlv.proofs.Within.{next-after, next-inside}
-use Rattle.tlv.proofs.Walk.{seek-refused, seek-here, seek-next}
+use Rattle.tlv.proofs.Zeros.{padding_within}
+use Rattle.tlv.proofs.Within.{next_after, next_inside}
+use Rattle.tlv.proofs.Walk.{seek_refused, seek_here, seek_next}
 
 module _ (l : List ℕ) (a e : ℕ) where
   -- the part without its first n bytes, and its length
   rest_of : (n : ℕ) → drop n (part l (between a e)) ≡ part l (between (a + n) e)
   rest_of n =
       let left : e - a - n ≡ e - (a + n) = omega arith in
-      drop-take n (e - a) (drop a l) ∙ rw (drop-drop n a l, left)
+      drop_take n (e - a) (drop a l) ∙ rw (drop-drop n a l, left)
 
   part_length : e ≤ length l → length (part l (between a e)) ≡ e - a
   part_length h = omega (arith, length-take (e - a) (drop a l), length-drop a l)
 
   module _ (r : Reading) (k : ℕ) where
     -- padding ends within the part
-    pub padding-ends : k ≡ padding r (part l (between a e)) → a ≤ e → e ≤ length l → a + k ≤ e
-    padding-ends h g f = omega (arith, h, padding-within r (part l (between a e)), part_length f, g)
+    pub padding_ends : k ≡ padding r (part l (between a e)) → a ≤ e → e ≤ length l → a + k ≤ e
+    padding_ends h g f = omega (arith, h, padding_within r (part l (between a e)), part_length f, g)
 
     -- the next object is read after it
-    pub next-from : k ≡ padding r (part l (between a e)) → next_of r (part l (between a e)) ≡ placed k (objectOf r (part l (between (a + k) e)))
-    next-from h = next-after r (part l (between a e)) k h ∙ ap (λ (s : List ℕ). placed k (objectOf r s)) (rest_of k)
+    pub next_from : k ≡ padding r (part l (between a e)) → next_of r (part l (between a e)) ≡ placed k (object_of r (part l (between (a + k) e)))
+    next_from h = next_after r (part l (between a e)) k h ∙ ap (λ (s : List ℕ). placed k (object_of r s)) (rest_of k)
 
     -- there is none: the search ends where the padding does
     pub ends_there : (t n p : ℕ) → next_of r (part l (between a e)) ≡ placed k (refused n) → p ≡ a + k
         → refused (record { number = n; place = p }) ≡ seek r t a (part l (between a e))
     ends_there t n p h g =
-        ap (λ (m : ℕ). refused (record { number = n; place = m })) g ∙ sym (seek-refused r t a (part l (between a e)) _ h)
+        ap (λ (m : ℕ). refused (record { number = n; place = m })) g ∙ sym (seek_refused r t a (part l (between a e)) _ h)
 
     module _ (o : Object) (h : next_of r (part l (between a e)) ≡ placed k (ok o)) where
       abbrev item : Item
@@ -46,17 +46,17 @@ module _ (l : List ℕ) (a e : ℕ) where
 
       -- it lies within the part
       pub lies : a ≤ e → e ≤ length l → (1 ≤ o.at) × (a + k + o.at + o.len ≤ e)
-      lies g f = omega (arith, next-inside r (part l (between a e)) item h, part_length f, g)
+      lies g f = omega (arith, next_inside r (part l (between a e)) item h, part_length f, g)
 
       -- it has the tag; or the search goes on after it
-      pub found-there : (t p : ℕ) → o.tag ≡ t → p ≡ a + k + o.at → ok (record { at = p; len = o.len }) ≡ seek r t a (part l (between a e))
-      found-there t p g f =
+      pub found_there : (t p : ℕ) → o.tag ≡ t → p ≡ a + k + o.at → ok (record { at = p; len = o.len }) ≡ seek r t a (part l (between a e))
+      found_there t p g f =
           let place : p ≡ a + (k + o.at) = omega (arith, f) in
-          ap (λ (m : ℕ). ok (record { at = m; len = o.len })) place ∙ sym (seek-here r t a (part l (between a e)) item h g)
+          ap (λ (m : ℕ). ok (record { at = m; len = o.len })) place ∙ sym (seek_here r t a (part l (between a e)) item h g)
 
       pub goes_on : (t p : ℕ) → (o.tag ≡ t → ⊥) → p ≡ a + k + o.at + o.len
           → seek r t a (part l (between a e)) ≡ seek r t p (part l (between p e))
       goes_on t p g f =
           let place : p ≡ a + size_of item = omega (arith, f) in
-          seek-next r t a (part l (between a e)) item h g ∙ ap (λ (s : List ℕ). seek r t (a + size_of item) s) (rest_of (size_of item))
+          seek_next r t a (part l (between a e)) item h g ∙ ap (λ (s : List ℕ). seek r t (a + size_of item) s) (rest_of (size_of item))
           ∙ ap (λ (m : ℕ). seek r t m (part l (between m e))) (sym place)

@@ -7,77 +7,77 @@ use native.Mathlib.Omega.{arith}
 use lib.Dec.{leb, eqb}
 use lib.ListN.{length, get_or, drop}
 use borrow.Author.Tests.{eq-eqb, ne_eqb, le-leb}
-use Rattle.basis.proofs.Truth.{on-cond}
+use Rattle.basis.proofs.Truth.{on_cond}
 use Rattle.tlv.specs.Padding.{zeros, padding}
 use Rattle.tlv.specs.declared.Reading.{Reading}
 use Rattle.tlv.specs.declared.Reading.TheVariants.{Crate, Standard}
 
 -- a zero byte in front is counted, and any other byte ends the count
-pub zero-first : (b : ℕ) (s : List ℕ) → b ≡ 0 → zeros (b ∷ s) ≡ suc (zeros s)
+pub zero_first : (b : ℕ) (s : List ℕ) → b ≡ 0 → zeros (b ∷ s) ≡ suc (zeros s)
 unfolding zeros
-zero-first b s e = rw (eq-eqb b 0 e)
+zero_first b s e = rw (eq-eqb b 0 e)
 
-pub other-first : (b : ℕ) (s : List ℕ) → (b ≡ 0 → ⊥) → zeros (b ∷ s) ≡ 0
+pub other_first : (b : ℕ) (s : List ℕ) → (b ≡ 0 → ⊥) → zeros (b ∷ s) ≡ 0
 unfolding zeros
-other-first b s n = rw (ne_eqb b 0 n)
+other_first b s n = rw (ne_eqb b 0 n)
 
-pub zeros-nothing : zeros [] ≡ 0
+pub zeros_nothing : zeros [] ≡ 0
 unfolding zeros
-zeros-nothing = refl
+zeros_nothing = refl
 
 -- whether there is one in front: the first byte tells
-pub zeros-by-first : (s : List ℕ) → 1 ≤ length s → leb 1 (zeros s) ≡ eqb (get_or s 0 0) 0
+pub zeros_by_first : (s : List ℕ) → 1 ≤ length s → leb 1 (zeros s) ≡ eqb (get_or s 0 0) 0
 unfolding zeros
-zeros-by-first [] h = absurd (omega arith)
-zeros-by-first (b ∷ s) h =
-    on-cond (λ n. leb 1 n ≡ eqb b 0) (eqb b 0) _ _ (λ e. le-leb 1 (suc (zeros s)) (omega arith) ∙ sym e) (λ e. sym e)
+zeros_by_first [] h = absurd (omega arith)
+zeros_by_first (b ∷ s) h =
+    on_cond (λ n. leb 1 n ≡ eqb b 0) (eqb b 0) _ _ (λ e. le-leb 1 (suc (zeros s)) (omega arith) ∙ sym e) (λ e. sym e)
 
-pub first-zero : (s : List ℕ) → 1 ≤ zeros s → (get_or s 0 0 ≡ 0) × (1 ≤ length s)
-first-zero [] h = absurd (omega (arith, h, zeros-nothing))
-first-zero (b ∷ s) h =
-    elim (dec_le 1 b) [ yes g ↦ absurd (omega (arith, h, other-first b s (λ z. omega (arith, g, z)))) | no g ↦ (omega (arith, g), omega arith) ]
+pub first_zero : (s : List ℕ) → 1 ≤ zeros s → (get_or s 0 0 ≡ 0) × (1 ≤ length s)
+first_zero [] h = absurd (omega (arith, h, zeros_nothing))
+first_zero (b ∷ s) h =
+    elim (dec_le 1 b) [ yes g ↦ absurd (omega (arith, h, other_first b s (λ z. omega (arith, g, z)))) | no g ↦ (omega (arith, g), omega arith) ]
 
-pub first-not-zero : (s : List ℕ) → 1 ≤ length s → zeros s ≡ 0 → 1 ≤ get_or s 0 0
-first-not-zero [] h e = absurd (omega arith)
-first-not-zero (b ∷ s) h e =
-    elim (dec_le 1 b) [ yes g ↦ g | no g ↦ absurd (omega (arith, e, zero-first b s (omega (arith, g)))) ]
+pub first_not_zero : (s : List ℕ) → 1 ≤ length s → zeros s ≡ 0 → 1 ≤ get_or s 0 0
+first_not_zero [] h e = absurd (omega arith)
+first_not_zero (b ∷ s) h e =
+    elim (dec_le 1 b) [ yes g ↦ g | no g ↦ absurd (omega (arith, e, zero_first b s (omega (arith, g)))) ]
 
-pub zeros-of-none : (s : List ℕ) → length s < 1 → zeros s ≡ 0
-zeros-of-none [] h = zeros-nothing
-zeros-of-none (b ∷ s) h = absurd (omega arith)
+pub zeros_of_none : (s : List ℕ) → length s < 1 → zeros s ≡ 0
+zeros_of_none [] h = zeros_nothing
+zeros_of_none (b ∷ s) h = absurd (omega arith)
 
 zeros_within : (s : List ℕ) → zeros s ≤ length s
 unfolding zeros
 zeros_within [] = omega arith
 zeros_within (b ∷ s) =
-    on-cond (λ n. n ≤ suc (length s)) (eqb b 0) _ _ (λ _. omega (arith, zeros_within s)) (λ _. omega arith)
+    on_cond (λ n. n ≤ suc (length s)) (eqb b 0) _ _ (λ _. omega (arith, zeros_within s)) (λ _. omega arith)
 
-zeros-once : (s : List ℕ) → zeros (drop (zeros s) s) ≡ 0
+zeros_once : (s : List ℕ) → zeros (drop (zeros s) s) ≡ 0
 unfolding zeros
-zeros-once [] = refl
-zeros-once (b ∷ s) =
-    on-cond (λ n. zeros (drop n (b ∷ s)) ≡ 0) (eqb b 0) _ _ (λ _. zeros-once s) (λ e. rw e)
+zeros_once [] = refl
+zeros_once (b ∷ s) =
+    on_cond (λ n. zeros (drop n (b ∷ s)) ≡ 0) (eqb b 0) _ _ (λ _. zeros_once s) (λ e. rw e)
 
 -- padding lies within the bytes; after it there is none
-pub padding-within : (r : Reading) (s : List ℕ) → padding r s ≤ length s
+pub padding_within : (r : Reading) (s : List ℕ) → padding r s ≤ length s
 unfolding padding
-padding-within Crate s = omega arith
-padding-within Standard s = zeros_within s
+padding_within Crate s = omega arith
+padding_within Standard s = zeros_within s
 
-pub padding-once : (r : Reading) (s : List ℕ) → padding r (drop (padding r s) s) ≡ 0
+pub padding_once : (r : Reading) (s : List ℕ) → padding r (drop (padding r s) s) ≡ 0
 unfolding padding
-padding-once Crate s = refl
-padding-once Standard s = zeros-once s
+padding_once Crate s = refl
+padding_once Standard s = zeros_once s
 
 -- none in the crate reading (rule 16.2)
-pub crate-padding : (s : List ℕ) → padding Crate s ≡ 0
+pub crate_padding : (s : List ℕ) → padding Crate s ≡ 0
 unfolding padding
-crate-padding s = refl
+crate_padding s = refl
 
-pub standard-padding : (s : List ℕ) → padding Standard s ≡ zeros s
+pub standard_padding : (s : List ℕ) → padding Standard s ≡ zeros s
 unfolding padding
-standard-padding s = refl
+standard_padding s = refl
 
 -- from no bytes
-pub padding-nothing : (r : Reading) → padding r [] ≡ 0
-padding-nothing r = let w = padding-within r [] in omega (arith, w)
+pub padding_nothing : (r : Reading) → padding r [] ≡ 0
+padding_nothing r = let w = padding_within r [] in omega (arith, w)

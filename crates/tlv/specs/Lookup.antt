@@ -22,8 +22,8 @@ part s p = take p.len (drop p.at s)
 abbrev pub between : ℕ → ℕ → Span
 between a e = record { at = a; len = e - a }
 
-abbrev pub wholeRecord : List ℕ → Span
-wholeRecord s = record { at = 0; len = length s }
+abbrev pub whole_record : List ℕ → Span
+whole_record s = record { at = 0; len = length s }
 
 -- where the value of an object stands
 abbrev pub value_of : Item → Span
@@ -31,13 +31,13 @@ value_of i = record { at = i.at; len = i.len }
 
 -- the value of the first object with the tag among those of a walk (rule 6.10); if there is none, the stop. A number
 -- that is no tag matches nothing (rule 6.12), and what stands after the match is not read (rule 6.14)
-unfoldable pub firstValue : ℕ → List Item → Stop → Told Stop Span
-firstValue t [] e = refused e
-firstValue t (i ∷ rest) e = cond (eqb i.tag t) (ok (value_of i)) (firstValue t rest e)
+unfoldable pub first_value : ℕ → List Item → Stop → Told Stop Span
+first_value t [] e = refused e
+first_value t (i ∷ rest) e = cond (eqb i.tag t) (ok (value_of i)) (first_value t rest e)
 
 -- the same in bytes s that start at place a of the record
 unfoldable pub seek : Reading → ℕ → ℕ → List ℕ → Told Stop Span
-seek r t a s = firstValue t (walk r a s).items (walk r a s).stop
+seek r t a s = first_value t (walk r a s).items (walk r a s).stop
 
 -- what a path leads to: the place of the value in the record, its length, and how many tags matched (rule 15.4)
 pub record Found : Type 0 where
@@ -53,8 +53,8 @@ pub record Halt : Type 0 where
   pub matched : ℕ
 
 -- after m tags matched: a part that the path leads to, and the reply of a search
-abbrev pub foundBy : ℕ → Span → Found
-foundBy m p = record { at = p.at; len = p.len; matched = m }
+abbrev pub found_by : ℕ → Span → Found
+found_by m p = record { at = p.at; len = p.len; matched = m }
 
 abbrev pub searched : ℕ → Told Stop Span → Told Halt Span
 searched m (ok p) = ok p
@@ -63,36 +63,36 @@ searched m (refused e) = refused (record { number = e.number; place = e.place; m
 -- a path followed from a part p of the record, to which m tags led, tag by tag: the first object with the tag is
 -- entered, and the lookup never turns back (rule 6.10)
 unfoldable pub follow : Reading → List ℕ → ℕ → Span → List ℕ → Told Halt Found
-follow r s m p [] = ok (foundBy m p)
+follow r s m p [] = ok (found_by m p)
 follow r s m p (t ∷ path) = then (searched m (seek r t p.at (part s p))) (λ q. follow r s (m + 1) q path)
 
 -- what a path leads to, from the whole record; an empty path leads to the whole record (rules 6.13 and 15.5)
 abbrev pub lookup : Reading → List ℕ → List ℕ → Told Halt Found
-lookup r s path = follow r s 0 (wholeRecord s) path
+lookup r s path = follow r s 0 (whole_record s) path
 
 -- an answer of the code as a reply, at one level and for the path
-abbrev pub soughtReply : Sought → Told Stop Span
-soughtReply (sought.Value a n) = ok (record { at = a; len = n })
-soughtReply (sought.End p) = refused (record { number = 11; place = p })
-soughtReply (sought.Unreadable p) = refused (record { number = 12; place = p })
+abbrev pub sought_reply : Sought → Told Stop Span
+sought_reply (sought.Value a n) = ok (record { at = a; len = n })
+sought_reply (sought.End p) = refused (record { number = 11; place = p })
+sought_reply (sought.Unreadable p) = refused (record { number = 12; place = p })
 
-abbrev pub asReply : GetDataObject → Told Halt Found
-asReply (get.Value a n m) = ok (record { at = a; len = n; matched = m })
-asReply (get.End p m) = refused (record { number = 11; place = p; matched = m })
-asReply (get.Unreadable p m) = refused (record { number = 12; place = p; matched = m })
+abbrev pub as_reply : GetDataObject → Told Halt Found
+as_reply (get.Value a n m) = ok (record { at = a; len = n; matched = m })
+as_reply (get.End p m) = refused (record { number = 11; place = p; matched = m })
+as_reply (get.Unreadable p m) = refused (record { number = 12; place = p; matched = m })
 
 -- the promise of `get_data_object`
-abbrev pub get-data-object-is : Reading → List ℕ → List ℕ → GetDataObject → Type 0
-get-data-object-is r s path x = asReply x ≡ lookup r s path
+abbrev pub GetDataObjectIs : Reading → List ℕ → List ℕ → GetDataObject → Type 0
+GetDataObjectIs r s path x = as_reply x ≡ lookup r s path
 
 -- the part that was found; its bytes, and no bytes if there is none (rule 6.15)
 abbrev pub span_of : Found → Span
 span_of p = record { at = p.at; len = p.len }
 
-abbrev pub valueIn : List ℕ → Told Halt Found → List ℕ
-valueIn s (ok p) = part s (span_of p)
-valueIn s (refused h) = []
+abbrev pub value_in : List ℕ → Told Halt Found → List ℕ
+value_in s (ok p) = part s (span_of p)
+value_in s (refused h) = []
 
 -- the promise of `value`
-abbrev pub value-is : Reading → List ℕ → List ℕ → List ℕ → Type 0
-value-is r s path x = x ≡ valueIn s (lookup r s path)
+abbrev pub ValueIs : Reading → List ℕ → List ℕ → List ℕ → Type 0
+ValueIs r s path x = x ≡ value_in s (lookup r s path)

@@ -11,45 +11,45 @@ use lib.Seq.{take-length}
 use Rattle.basis.specs.Reply.{Reply, ok, refused}
 use Rattle.basis.specs.Over.{over}
 use Rattle.basis.proofs.Reply.{refused_not_ok}
-use Rattle.abi.specs.Answers.{usableLen}
-use Rattle.tlv_write.specs.Written.{objectBytes, put_of, bufferAfter, asReply, put-data-object-is}
+use Rattle.abi.specs.Answers.{usable_len}
+use Rattle.tlv_write.specs.Written.{object_bytes, put_of, buffer_after, as_reply, PutDataObjectIs}
 use Rattle.tlv_write.specs.declared.PutDataObject.{PutDataObject}
 use Rattle.tlv_write.specs.declared.PutDataObject.TheVariants.{Written, Refused}
-use Rattle.tlv_write.proofs.Objects.{object-some}
+use Rattle.tlv_write.proofs.Objects.{object_some}
 use Rattle.tlv_abi.specs.Written.{writing, ObjectWritten}
 
 -- a second test for 19 changes nothing
-tested-twice : (b : Bool) (x : Reply ℕ) → cond b (refused 19) (cond b (refused 19) x) ≡ cond b (refused 19) x
-tested-twice true x = refl
-tested-twice false x = refl
+tested_twice : (b : Bool) (x : Reply ℕ) → cond b (refused 19) (cond b (refused 19) x) ≡ cond b (refused 19) x
+tested_twice true x = refl
+tested_twice false x = refl
 
 -- the reply by the part of the buffer that is used: all of it, or none if there is no room for a number
 module _ (t v : List ℕ) (at m n : ℕ) where
   row : 1 ≤ n → writing t v at m n ≡ put_of at m t v
   unfolding put_of
-  row h = rw (le-ltb n 1 h) (tested-twice (ltb 65535 (length v)) _)
+  row h = rw (le-ltb n 1 h) (tested_twice (ltb 65535 (length v)) _)
 
   no_row : n < 1 → writing t v at m n ≡ put_of at 0 t v
   unfolding put_of
-  no_row h = rw (lt-ltb n 1 h, lt-ltb 0 (at + length (objectBytes t v)) (omega (arith, object-some t v)))
+  no_row h = rw (lt-ltb n 1 h, lt-ltb 0 (at + length (object_bytes t v)) (omega (arith, object_some t v)))
 
 -- an object that is written needs at least one byte
-some-room : (t v : List ℕ) (at m k : ℕ) → put_of at m t v ≡ ok k → 1 ≤ m
+some_room : (t v : List ℕ) (at m k : ℕ) → put_of at m t v ≡ ok k → 1 ≤ m
 unfolding put_of
-some-room t v at m k e = by_length (ltb 65535 (length v)) e
+some_room t v at m k e = by_length (ltb 65535 (length v)) e
   where
-    by-room : (c : Bool) → ltb m (at + length (objectBytes t v)) ≡ c → cond {A = Reply ℕ} c (refused 16) (ok (length (objectBytes t v))) ≡ ok k → 1 ≤ m
-    by-room true f g = absurd (refused_not_ok 16 k g)
-    by-room false f g = omega (arith, ltb-false m (at + length (objectBytes t v)) f, object-some t v)
+    by_room : (c : Bool) → ltb m (at + length (object_bytes t v)) ≡ c → cond {A = Reply ℕ} c (refused 16) (ok (length (object_bytes t v))) ≡ ok k → 1 ≤ m
+    by_room true f g = absurd (refused_not_ok 16 k g)
+    by_room false f g = omega (arith, ltb-false m (at + length (object_bytes t v)) f, object_some t v)
 
-    by_length : (b : Bool) → cond {A = Reply ℕ} b (refused 19) (cond (ltb m (at + length (objectBytes t v))) (refused 16) (ok (length (objectBytes t v)))) ≡ ok k
+    by_length : (b : Bool) → cond {A = Reply ℕ} b (refused 19) (cond (ltb m (at + length (object_bytes t v))) (refused 16) (ok (length (object_bytes t v)))) ≡ ok k
         → 1 ≤ m
     by_length true g = absurd (refused_not_ok 19 k g)
-    by_length false g = by-room (ltb m (at + length (objectBytes t v))) refl g
+    by_length false g = by_room (ltb m (at + length (object_bytes t v))) refl g
 
 -- an object is written into that part; the rest of the buffer follows it
-module _ (t v : List ℕ) (at : ℕ) (b out : List ℕ) (n : ℕ) (u : n ≡ usableLen (length b) (length out) 1) (x : PutDataObject)
-    (ys : List ℕ) (p : put-data-object-is t v (take n b) at x ys) where
+module _ (t v : List ℕ) (at : ℕ) (b out : List ℕ) (n : ℕ) (u : n ≡ usable_len (length b) (length out) 1) (x : PutDataObject)
+    (ys : List ℕ) (p : PutDataObjectIs t v (take n b) at x ys) where
   abbrev reply : Reply ℕ
   reply = writing t v at (length b) (length out)
 
@@ -65,39 +65,39 @@ module _ (t v : List ℕ) (at : ℕ) (b out : List ℕ) (n : ℕ) (u : n ≡ usa
   same_by false e =
       let h = ltb-false (length out) 1 e in row t v at (length b) (length out) h ∙ rw (all h, take-length b)
 
-  same : reply ≡ asReply x
+  same : reply ≡ as_reply x
   same = same_by (ltb (length out) 1) refl ∙ sym p.reply
 
   -- a refusal leaves the part as it is, and so the buffer
-  refused-by : (y : Reply ℕ) → put_of at 0 t v ≡ y → bufferAfter y at t v [] ++ b ≡ bufferAfter y at t v b
-  refused-by (ok k) e = absurd (omega (arith, some-room t v at 0 k e))
-  refused-by (refused k) e = refl
+  refused_by : (y : Reply ℕ) → put_of at 0 t v ≡ y → buffer_after y at t v [] ++ b ≡ buffer_after y at t v b
+  refused_by (ok k) e = absurd (omega (arith, some_room t v at 0 k e))
+  refused_by (refused k) e = refl
 
-  bytes-by : (c : Bool) → ltb (length out) 1 ≡ c → ys ++ drop n b ≡ bufferAfter reply at t v b
-  bytes-by true e =
+  bytes_by : (c : Bool) → ltb (length out) 1 ≡ c → ys ++ drop n b ≡ buffer_after reply at t v b
+  bytes_by true e =
       let h = ltb-true (length out) 1 e in
-      rw (no_row t v at (length b) (length out) h, p.buffer, none h) (refused-by (put_of at 0 t v) refl)
-  bytes-by false e =
+      rw (no_row t v at (length b) (length out) h, p.buffer, none h) (refused_by (put_of at 0 t v) refl)
+  bytes_by false e =
       let h = ltb-false (length out) 1 e in
       let k = all h in
       let gone : drop n b ≡ [] = drop_of_length-le b {i = n} (omega arith) in
       rw (row t v at (length b) (length out) h, p.buffer, gone, append-nil, k, take-length b)
 
-  pub write-refused : (k : ℕ) → x ≡ Refused k → ObjectWritten t v at b out k (ys ++ drop n b) out
-  write-refused k e =
-      let f : reply ≡ refused k = same ∙ ap asReply e in
-      record { reply = rw f; bytes = bytes-by (ltb (length out) 1) refl; row = rw f }
+  pub write_refused : (k : ℕ) → x ≡ Refused k → ObjectWritten t v at b out k (ys ++ drop n b) out
+  write_refused k e =
+      let f : reply ≡ refused k = same ∙ ap as_reply e in
+      record { reply = rw f; bytes = bytes_by (ltb (length out) 1) refl; row = rw f }
 
-  pub count-has-place : (k : ℕ) → x ≡ Written k → 1 ≤ length out
-  count-has-place k e = count-has-place-by (ltb (length out) 1) refl
+  pub count_has_place : (k : ℕ) → x ≡ Written k → 1 ≤ length out
+  count_has_place k e = count_has_place_by (ltb (length out) 1) refl
     where
-      count-has-place-by : (c : Bool) → ltb (length out) 1 ≡ c → 1 ≤ length out
-      count-has-place-by true f =
+      count_has_place_by : (c : Bool) → ltb (length out) 1 ≡ c → 1 ≤ length out
+      count_has_place_by true f =
           let h = ltb-true (length out) 1 f in
-          absurd (omega (arith, some-room t v at 0 k (sym (no_row t v at (length b) (length out) h) ∙ same ∙ ap asReply e)))
-      count-has-place-by false f = ltb-false (length out) 1 f
+          absurd (omega (arith, some_room t v at 0 k (sym (no_row t v at (length b) (length out) h) ∙ same ∙ ap as_reply e)))
+      count_has_place_by false f = ltb-false (length out) 1 f
 
-  pub object-written : (k : ℕ) (out' : List ℕ) → x ≡ Written k → out' ≡ over (k ∷ []) out → ObjectWritten t v at b out 0 (ys ++ drop n b) out'
-  object-written k out' e g =
-      let f : reply ≡ ok k = same ∙ ap asReply e in
-      record { reply = rw f; bytes = bytes-by (ltb (length out) 1) refl; row = rw f g }
+  pub object_written : (k : ℕ) (out' : List ℕ) → x ≡ Written k → out' ≡ over (k ∷ []) out → ObjectWritten t v at b out 0 (ys ++ drop n b) out'
+  object_written k out' e g =
+      let f : reply ≡ ok k = same ∙ ap as_reply e in
+      record { reply = rw f; bytes = bytes_by (ltb (length out) 1) refl; row = rw f g }

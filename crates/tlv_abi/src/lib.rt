@@ -4,7 +4,7 @@
 ghost use Rattle.abi.specs.Answers.{NumbersWritten, NumbersOf, RowTold};
 ghost use Rattle.tlv.specs.Tag as tag;
 ghost use Rattle.tlv.specs.Len as len;
-ghost use Rattle.tlv_abi.specs.Numbers.{tagNumbers, lenNumbers, takeTagReply, takeLenReply, takeDataObjectRow, ValueCopied};
+ghost use Rattle.tlv_abi.specs.Numbers.{tag_numbers, len_numbers, take_tag_reply, take_len_reply, take_data_object_row, ValueCopied};
 
 mod write;
 
@@ -17,7 +17,7 @@ pub use write::gorvisclen_put_data_object;
 
 // A tag as numbers.
 fn tag_numbers(taken: TakeTag) -> Numbers
-    ensures { NumbersOf (tagNumbers (tag.asReply taken)) result }
+    ensures { NumbersOf (tag_numbers (tag.as_reply taken)) result }
 {
     match taken {
         TakeTag::End => Numbers(11, 0, 0),
@@ -28,7 +28,7 @@ fn tag_numbers(taken: TakeTag) -> Numbers
 
 // A length as numbers.
 fn len_numbers(taken: TakeLen) -> Numbers
-    ensures { NumbersOf (lenNumbers (len.asReply taken)) result }
+    ensures { NumbersOf (len_numbers (len.as_reply taken)) result }
 {
     match taken {
         TakeLen::Unreadable => Numbers(12, 0, 0),
@@ -39,7 +39,7 @@ fn len_numbers(taken: TakeLen) -> Numbers
 // Writes 2 numbers: the tag, and how many bytes it takes (rules 6.1 to 6.4).
 #[unsafe(no_mangle)]
 pub extern "C" fn gorvisclen_take_tag(reading: u8, bytes: &[u8], out: &mut [u64]) -> u8
-    ensures { NumbersWritten 2 (takeTagReply reading bytes.now) out.old result out.new }
+    ensures { NumbersWritten 2 (take_tag_reply reading bytes.now) out.old result out.new }
 {
     let tag = tag_numbers(tlv::take_tag(tlv_reading_by_number(reading), bytes));
     write_unless_refused(tag.0, &[tag.1, tag.2], out)
@@ -48,7 +48,7 @@ pub extern "C" fn gorvisclen_take_tag(reading: u8, bytes: &[u8], out: &mut [u64]
 // Writes 2 numbers: the length, and how many bytes it takes (rule 6.6).
 #[unsafe(no_mangle)]
 pub extern "C" fn gorvisclen_take_len(reading: u8, bytes: &[u8], out: &mut [u64]) -> u8
-    ensures { NumbersWritten 2 (takeLenReply reading bytes.now) out.old result out.new }
+    ensures { NumbersWritten 2 (take_len_reply reading bytes.now) out.old result out.new }
 {
     let len = len_numbers(tlv::take_len(tlv_reading_by_number(reading), bytes));
     write_unless_refused(len.0, &[len.1, len.2], out)
@@ -63,7 +63,7 @@ pub extern "C" fn gorvisclen_take_data_object(
     at: usize,
     out: &mut [u64],
 ) -> u8
-    ensures { RowTold (takeDataObjectRow reading «record».now at) out.old result out.new }
+    ensures { RowTold (take_data_object_row reading «record».now at) out.old result out.new }
 {
     match tlv::take_data_object(tlv_reading_by_number(reading), record, at) {
         TakeDataObject::End(place) => tell_row(11, &[place as u64, 0, 0, 0], out),

@@ -6,7 +6,7 @@ use mathlib.Core.List.{List, [], ◌∷◌}
 use lib.Dec.{eqb}
 use Rattle.basis.proofs.Reply.{apart}
 use Rattle.tlv_chunks.specs.Run.{Event, head, end, refusal}
-use Rattle.tlv_chunks.specs.Call.{Call, eventsOf, Says, new_is, take-is, close-is}
+use Rattle.tlv_chunks.specs.Call.{Call, events_of, Says, NewIs, TakeIs, CloseIs}
 use Rattle.tlv_chunks.specs.declared.walk.ChunkWalk.{ChunkWalk}
 use Rattle.tlv_chunks.specs.declared.walk.TakeChunk.{TakeChunk}
 use Rattle.tlv_chunks.specs.declared.walk.TakeChunk.TheVariants as answer
@@ -20,7 +20,7 @@ back (head t n ∷ e ∷ es) = answer.Empty t
 back (end ∷ es) = answer.ValueEnd
 back (refusal k ∷ es) = cond (eqb k 11) answer.End answer.Unreadable
 
-there_and_back : (x : TakeChunk) → back (eventsOf x) ≡ x
+there_and_back : (x : TakeChunk) → back (events_of x) ≡ x
 there_and_back answer.NeedMore = refl
 there_and_back (answer.Head t n) = refl
 there_and_back (answer.Empty t) = refl
@@ -30,16 +30,16 @@ there_and_back answer.Unreadable = refl
 
 one_answer : (c : Call) (x y : ChunkTaken) → Says c x → Says c y → x ≡ y
 one_answer c x y p q =
-    let answers : x.answer ≡ y.answer = apart eventsOf back there_and_back _ _ (p.tells ∙⁻¹ q.tells) in
+    let answers : x.answer ≡ y.answer = apart events_of back there_and_back _ _ (p.tells ∙⁻¹ q.tells) in
     let numbers : x.taken ≡ y.taken = p.taken ∙⁻¹ q.taken in
     let walks : x.walk ≡ y.walk = p.walk ∙⁻¹ q.walk in
     λ i. record { answer = answers i; taken = numbers i; walk = walks i }
 
-pub new : (x y : ChunkWalk) → new_is x → new_is y → x ≡ y
+pub new : (x y : ChunkWalk) → NewIs x → NewIs y → x ≡ y
 new x y p q = p ∙⁻¹ q
 
-pub take : (w : ChunkWalk) (s : List ℕ) (x y : ChunkTaken) → take-is w s x → take-is w s y → x ≡ y
+pub take : (w : ChunkWalk) (s : List ℕ) (x y : ChunkTaken) → TakeIs w s x → TakeIs w s y → x ≡ y
 take w s x y p q = one_answer _ x y p q
 
-pub close : (w : ChunkWalk) (x y : ChunkTaken) → close-is w x → close-is w y → x ≡ y
+pub close : (w : ChunkWalk) (x y : ChunkTaken) → CloseIs w x → CloseIs w y → x ≡ y
 close w x y p q = one_answer _ x y p q

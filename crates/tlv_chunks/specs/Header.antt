@@ -1,6 +1,6 @@
 -- A header, tag and length, by one byte more: crate reading (rules 18.2, 6.1 to 6.3 and 6.6).
 use Rattle.std.specs.Prelude.{ℕ, ◌+◌, ◌*◌, ◌%◌, cond, leb, eqb}
-use Rattle.tlv.specs.Tag.{crateTagSize, crateThirdByte}
+use Rattle.tlv.specs.Tag.{crate_tag_size, crate_third_byte}
 use Rattle.tlv_chunks.specs.declared.header.Header.{Header}
 use Rattle.tlv_chunks.specs.declared.header.Header.TheVariants.{Tag1, Tag2, Tag, Length81, Length82, Length82High}
 use Rattle.tlv_chunks.specs.declared.header.HeaderByte.{HeaderByte}
@@ -12,11 +12,11 @@ first_of a = cond (eqb (a % 32) 31) (Tag1 a) (Tag a)
 
 -- the second byte of a tag: it is refused, or ends the tag, or a third follows (rule 6.2)
 unfoldable pub second_of : ℕ → ℕ → HeaderByte
-second_of a b = cond (eqb (crateTagSize b) 0) Unreadable (cond (eqb (crateTagSize b) 2) (More (Tag (a * 256 + b))) (More (Tag2 a b)))
+second_of a b = cond (eqb (crate_tag_size b) 0) Unreadable (cond (eqb (crate_tag_size b) 2) (More (Tag (a * 256 + b))) (More (Tag2 a b)))
 
 -- the third byte of a tag (rule 6.3)
-unfoldable pub thirdOf : ℕ → ℕ → ℕ → HeaderByte
-thirdOf a b c = cond (crateThirdByte c) (More (Tag ((a * 256 + b) * 256 + c))) Unreadable
+unfoldable pub third_of : ℕ → ℕ → ℕ → HeaderByte
+third_of a b c = cond (crate_third_byte c) (More (Tag ((a * 256 + b) * 256 + c))) Unreadable
 
 -- the first byte of a length: it is the length up to 7F, one byte follows 81, two follow 82; others are refused (rule
 -- 6.6)
@@ -27,7 +27,7 @@ length_of t a =
 -- any byte of a header after its first
 unfoldable pub byte_of : Header → ℕ → HeaderByte
 byte_of (Tag1 a) b = second_of a b
-byte_of (Tag2 a b) c = thirdOf a b c
+byte_of (Tag2 a b) c = third_of a b c
 byte_of (Tag t) b = length_of t b
 byte_of (Length81 t) b = Complete t b
 byte_of (Length82 t) b = More (Length82High t b)

@@ -29,21 +29,21 @@ headed t zero = record { tells = head t 0 ∷ end ∷ []; walk = Boundary }
 headed t (suc n) = record { tells = head t (suc n) ∷ []; walk = Value n }
 
 -- a byte of a header; if it cannot be read the walk stops with 12 (rule 18.4)
-abbrev pub headerByte : HeaderByte → Step
-headerByte (byte.More h) = nothing (Header h)
-headerByte (byte.Complete t n) = headed t n
-headerByte byte.Unreadable = record { tells = refusal 12 ∷ []; walk = Unreadable }
+abbrev pub header_byte : HeaderByte → Step
+header_byte (byte.More h) = nothing (Header h)
+header_byte (byte.Complete t n) = headed t n
+header_byte byte.Unreadable = record { tells = refusal 12 ∷ []; walk = Unreadable }
 
 -- a byte of a value, of which n are missing after it
-abbrev pub valueByte : ℕ → Step
-valueByte zero = record { tells = end ∷ []; walk = Boundary }
-valueByte (suc n) = nothing (Value n)
+abbrev pub value_byte : ℕ → Step
+value_byte zero = record { tells = end ∷ []; walk = Boundary }
+value_byte (suc n) = nothing (Value n)
 
 -- any byte; a walk that has stopped stays as it is (rule 18.7)
 unfoldable pub step : ChunkWalk → ℕ → Step
 step Boundary b = nothing (Header (first_of b))
-step (Header h) b = headerByte (byte_of h b)
-step (Value n) b = valueByte n
+step (Header h) b = header_byte (byte_of h b)
+step (Value n) b = value_byte n
 step End b = nothing End
 step Unreadable b = nothing Unreadable
 

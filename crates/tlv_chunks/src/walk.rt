@@ -1,6 +1,6 @@
 // The walk of a record that comes in chunks (rules 18.1 to 18.8).
 ghost use Rattle.std.specs.Prelude.{◌≡◌, ◌≤◌, ◌<◌, length};
-ghost use Rattle.tlv_chunks.specs.Call.{Says, answerCall, headCall, restCall, valueCall, new_is, take-is, close-is};
+ghost use Rattle.tlv_chunks.specs.Call.{Says, answer_call, head_call, rest_call, value_call, NewIs, TakeIs, CloseIs};
 
 use crate::header::{Header, HeaderByte, first_byte, next_byte};
 
@@ -46,7 +46,7 @@ fn wide(n: u16) -> usize
 
 // An answer, after so many bytes of the chunk, and the walk then.
 fn answered(answer: TakeChunk, taken: usize, walk: ChunkWalk) -> ChunkTaken
-    ensures { Says (answerCall answer taken walk) result }
+    ensures { Says (answer_call answer taken walk) result }
 {
     ChunkTaken {
         answer,
@@ -57,7 +57,7 @@ fn answered(answer: TakeChunk, taken: usize, walk: ChunkWalk) -> ChunkTaken
 
 // A header is complete after so many bytes: the value follows, or it has no bytes and is complete too (rule 18.3).
 fn head(tag: u32, len: u16, taken: usize) -> ChunkTaken
-    ensures { Says (headCall tag len taken) result }
+    ensures { Says (head_call tag len taken) result }
 {
     if len == 0 {
         return answered(TakeChunk::Empty(tag), taken, ChunkWalk::Boundary);
@@ -68,7 +68,7 @@ fn head(tag: u32, len: u16, taken: usize) -> ChunkTaken
 // The bytes of a header from a place of the chunk on.
 fn header_bytes(header: Header, chunk: &[u8], from: usize) -> ChunkTaken
     requires { from ≤ length chunk.now }
-    ensures { Says (restCall header chunk.now from) result }
+    ensures { Says (rest_call header chunk.now from) result }
 {
     let mut header = header;
     let mut at = from;
@@ -91,7 +91,7 @@ fn header_bytes(header: Header, chunk: &[u8], from: usize) -> ChunkTaken
 
 // The bytes of a chunk that starts where an object may start.
 fn object_bytes(chunk: &[u8]) -> ChunkTaken
-    ensures { take-is ChunkWalk.Boundary chunk.now result }
+    ensures { TakeIs ChunkWalk.Boundary chunk.now result }
 {
     if chunk.len() < 1 {
         return answered(TakeChunk::NeedMore, 0, ChunkWalk::Boundary);
@@ -101,7 +101,7 @@ fn object_bytes(chunk: &[u8]) -> ChunkTaken
 
 // The bytes of a value in a chunk of `len` bytes, in one step: none of them is looked at (rule 18.8).
 fn value_bytes(more: u16, len: usize) -> ChunkTaken
-    ensures { Says (valueCall more len) result }
+    ensures { Says (value_call more len) result }
 {
     let more = wide(more);
     if len <= more {
@@ -117,7 +117,7 @@ fn value_bytes(more: u16, len: usize) -> ChunkTaken
 impl ChunkWalk {
     // A walk before the first byte of a record.
     pub fn new() -> ChunkWalk
-        ensures { new_is result }
+        ensures { NewIs result }
     {
         let fresh = ChunkWalk::Boundary;
         fresh
@@ -127,7 +127,7 @@ impl ChunkWalk {
     // needed or the reply is a refusal (rule 18.1). A walk that has stopped gives its number again, and nothing changes
     // (rule 18.7).
     pub fn take(self, chunk: &[u8]) -> ChunkTaken
-        ensures { take-is self chunk.now result }
+        ensures { TakeIs self chunk.now result }
     {
         match self {
             ChunkWalk::Boundary => object_bytes(chunk),
@@ -140,7 +140,7 @@ impl ChunkWalk {
 
     // No bytes come any more: 11 at a boundary, 12 in an object (rule 18.6).
     pub fn close(self) -> ChunkTaken
-        ensures { close-is self result }
+        ensures { CloseIs self result }
     {
         match self {
             ChunkWalk::Boundary => answered(TakeChunk::End, 0, ChunkWalk::End),

@@ -2,14 +2,14 @@
 use Prim.Native.Nat.{ℕ}
 use mathlib.Core.Path.{◌≡◌}
 use mathlib.Core.List.{List}
-use Rattle.abi.proofs.OneReply.{one-row}
-use Rattle.tlv_chunks.specs.Call.{take_of, closeOf}
-use Rattle.tlv_chunks_abi.specs.Numbers.{walkByNumbers, row_of, ChunkTold, CloseTold}
+use Rattle.abi.proofs.OneReply.{one_row}
+use Rattle.tlv_chunks.specs.Call.{take_of, close_of}
+use Rattle.tlv_chunks_abi.specs.Numbers.{walk_by_numbers, row_of, ChunkTold, CloseTold}
 
-pub gorvisclen-take-chunk : (k t n : ℕ) (s out : List ℕ) (r q : ℕ) (a b : List ℕ) → ChunkTold k t n s out r a → ChunkTold k t n s out q b
+pub gorvisclen_take_chunk : (k t n : ℕ) (s out : List ℕ) (r q : ℕ) (a b : List ℕ) → ChunkTold k t n s out r a → ChunkTold k t n s out q b
     → (r ≡ q) × (a ≡ b)
-gorvisclen-take-chunk k t n s = one-row (row_of (take_of (walkByNumbers k t n) s))
+gorvisclen_take_chunk k t n s = one_row (row_of (take_of (walk_by_numbers k t n) s))
 
-pub gorvisclen-close-chunks : (k t n : ℕ) (out : List ℕ) (r q : ℕ) (a b : List ℕ) → CloseTold k t n out r a → CloseTold k t n out q b
+pub gorvisclen_close_chunks : (k t n : ℕ) (out : List ℕ) (r q : ℕ) (a b : List ℕ) → CloseTold k t n out r a → CloseTold k t n out q b
     → (r ≡ q) × (a ≡ b)
-gorvisclen-close-chunks k t n = one-row (row_of (closeOf (walkByNumbers k t n)))
+gorvisclen_close_chunks k t n = one_row (row_of (close_of (walk_by_numbers k t n)))

@@ -2,7 +2,7 @@
 use Rattle.std.specs.Prelude.{ℕ, ◌+◌, ◌*◌, ◌/◌, ◌%◌, ◌<◌, cond, List, [], ◌∷◌, ◌++◌, eqb, leb, get_or}
 use Rattle.abi.specs.Answers.{Row, row, RowTold}
 use Rattle.tlv_chunks.specs.Run.{Event, head, end, refusal}
-use Rattle.tlv_chunks.specs.Call.{Call, take_of, closeOf, call_of}
+use Rattle.tlv_chunks.specs.Call.{Call, take_of, close_of, call_of}
 use Rattle.tlv_chunks.specs.declared.header.Header.{Header as Part}
 use Rattle.tlv_chunks.specs.declared.header.Header.TheVariants.{Tag1, Tag2, Tag, Length81, Length82, Length82High}
 use Rattle.tlv_chunks.specs.declared.walk.ChunkWalk.{ChunkWalk}
@@ -10,60 +10,60 @@ use Rattle.tlv_chunks.specs.declared.walk.ChunkWalk.TheVariants.{Boundary, Heade
 use Rattle.tlv_chunks.specs.declared.walk.ChunkTaken.{ChunkTaken}
 
 -- the header of kinds 4 to 6: after the tag and 81, 82, or 82 and the low byte of the number (rule 18.10)
-unfoldable pub lengthByNumbers : ℕ → ℕ → ℕ → Part
-lengthByNumbers k t n = cond (eqb k 4) (Length81 t) (cond (eqb k 5) (Length82 t) (Length82High t (n % 256)))
+unfoldable pub length_by_numbers : ℕ → ℕ → ℕ → Part
+length_by_numbers k t n = cond (eqb k 4) (Length81 t) (cond (eqb k 5) (Length82 t) (Length82High t (n % 256)))
 
 -- the header of kinds 1 to 6: one byte of a tag, two, the high one first, or a whole tag (rule 18.10)
-unfoldable pub headerByNumbers : ℕ → ℕ → ℕ → Part
-headerByNumbers k t n =
-    cond (eqb k 1) (Tag1 (t % 256)) (cond (eqb k 2) (Tag2 (t / 256 % 256) (t % 256)) (cond (eqb k 3) (Tag t) (lengthByNumbers k t n)))
+unfoldable pub header_by_numbers : ℕ → ℕ → ℕ → Part
+header_by_numbers k t n =
+    cond (eqb k 1) (Tag1 (t % 256)) (cond (eqb k 2) (Tag2 (t / 256 % 256) (t % 256)) (cond (eqb k 3) (Tag t) (length_by_numbers k t n)))
 
 -- the state of any kind, with its tag and its number: 9 and above have stopped with 12 (rule 18.10)
-unfoldable pub walkByNumbers : ℕ → ℕ → ℕ → ChunkWalk
-walkByNumbers k t n =
+unfoldable pub walk_by_numbers : ℕ → ℕ → ℕ → ChunkWalk
+walk_by_numbers k t n =
     cond (eqb k 0) Boundary
-    (cond (leb k 6) (Header (headerByNumbers k t n)) (cond (eqb k 7) (Value n) (cond (eqb k 8) End Unreadable)))
+    (cond (leb k 6) (Header (header_by_numbers k t n)) (cond (eqb k 7) (Value n) (cond (eqb k 8) End Unreadable)))
 
 -- the numbers of a header: kind, tag, number; 0 for what it has not (rule 18.10)
-abbrev pub headerNumbers : Part → List ℕ
-headerNumbers (Tag1 a) = 1 ∷ a ∷ 0 ∷ []
-headerNumbers (Tag2 a b) = 2 ∷ (a * 256 + b) ∷ 0 ∷ []
-headerNumbers (Tag t) = 3 ∷ t ∷ 0 ∷ []
-headerNumbers (Length81 t) = 4 ∷ t ∷ 0 ∷ []
-headerNumbers (Length82 t) = 5 ∷ t ∷ 0 ∷ []
-headerNumbers (Length82High t a) = 6 ∷ t ∷ a ∷ []
+abbrev pub header_numbers : Part → List ℕ
+header_numbers (Tag1 a) = 1 ∷ a ∷ 0 ∷ []
+header_numbers (Tag2 a b) = 2 ∷ (a * 256 + b) ∷ 0 ∷ []
+header_numbers (Tag t) = 3 ∷ t ∷ 0 ∷ []
+header_numbers (Length81 t) = 4 ∷ t ∷ 0 ∷ []
+header_numbers (Length82 t) = 5 ∷ t ∷ 0 ∷ []
+header_numbers (Length82High t a) = 6 ∷ t ∷ a ∷ []
 
 -- the numbers of a state, likewise (rule 18.10)
-abbrev pub walkNumbers : ChunkWalk → List ℕ
-walkNumbers Boundary = 0 ∷ 0 ∷ 0 ∷ []
-walkNumbers (Header h) = headerNumbers h
-walkNumbers (Value n) = 7 ∷ 0 ∷ n ∷ []
-walkNumbers End = 8 ∷ 0 ∷ 0 ∷ []
-walkNumbers Unreadable = 9 ∷ 0 ∷ 0 ∷ []
+abbrev pub walk_numbers : ChunkWalk → List ℕ
+walk_numbers Boundary = 0 ∷ 0 ∷ 0 ∷ []
+walk_numbers (Header h) = header_numbers h
+walk_numbers (Value n) = 7 ∷ 0 ∷ n ∷ []
+walk_numbers End = 8 ∷ 0 ∷ 0 ∷ []
+walk_numbers Unreadable = 9 ∷ 0 ∷ 0 ∷ []
 
 -- the state that the numbers of a row stand for, if a host hands them in again (rule 18.10)
 abbrev pub walk_of : List ℕ → ChunkWalk
-walk_of vs = walkByNumbers (get_or vs 0 0) (get_or vs 1 0) (get_or vs 2 0)
+walk_of vs = walk_by_numbers (get_or vs 0 0) (get_or vs 1 0) (get_or vs 2 0)
 
 -- the status of what is told: the number of a refusal, else 0 (rule 18.10)
-abbrev pub toldStatus : List Event → ℕ
-toldStatus [] = 0
-toldStatus (head t n ∷ es) = 0
-toldStatus (end ∷ es) = 0
-toldStatus (refusal k ∷ es) = k
+abbrev pub told_status : List Event → ℕ
+told_status [] = 0
+told_status (head t n ∷ es) = 0
+told_status (end ∷ es) = 0
+told_status (refusal k ∷ es) = k
 
 -- the first four numbers: 1 if a head is told, 1 if an end is, and the head's tag and length. All that is told with a
 -- head is the end of a value of no bytes (rule 18.10)
-abbrev pub toldNumbers : List Event → List ℕ
-toldNumbers [] = 0 ∷ 0 ∷ 0 ∷ 0 ∷ []
-toldNumbers (head t n ∷ []) = 1 ∷ 0 ∷ t ∷ n ∷ []
-toldNumbers (head t n ∷ e ∷ es) = 1 ∷ 1 ∷ t ∷ n ∷ []
-toldNumbers (end ∷ es) = 0 ∷ 1 ∷ 0 ∷ 0 ∷ []
-toldNumbers (refusal k ∷ es) = 0 ∷ 0 ∷ 0 ∷ 0 ∷ []
+abbrev pub told_numbers : List Event → List ℕ
+told_numbers [] = 0 ∷ 0 ∷ 0 ∷ 0 ∷ []
+told_numbers (head t n ∷ []) = 1 ∷ 0 ∷ t ∷ n ∷ []
+told_numbers (head t n ∷ e ∷ es) = 1 ∷ 1 ∷ t ∷ n ∷ []
+told_numbers (end ∷ es) = 0 ∷ 1 ∷ 0 ∷ 0 ∷ []
+told_numbers (refusal k ∷ es) = 0 ∷ 0 ∷ 0 ∷ 0 ∷ []
 
 -- the row of a call: these four, how many bytes it takes, and the state after it (rule 18.10)
 abbrev pub row_of : Call → Row
-row_of c = row (toldStatus c.tells) (toldNumbers c.tells ++ (c.taken ∷ walkNumbers c.walk))
+row_of c = row (told_status c.tells) (told_numbers c.tells ++ (c.taken ∷ walk_numbers c.walk))
 
 -- the bytes that a header holds are bytes, as the types of the code say
 abbrev pub PartHoldsBytes : Part → Type 0
@@ -89,8 +89,8 @@ AnswerTold x out r out' = RowTold (row_of (call_of x)) out r out'
 -- the promise of `gorvisclen_take_chunk`, for a chunk s in the state that three numbers stand for (rules 18.1 and
 -- 18.10)
 abbrev pub ChunkTold : ℕ → ℕ → ℕ → List ℕ → List ℕ → ℕ → List ℕ → Type 0
-ChunkTold k t n s out r out' = RowTold (row_of (take_of (walkByNumbers k t n) s)) out r out'
+ChunkTold k t n s out r out' = RowTold (row_of (take_of (walk_by_numbers k t n) s)) out r out'
 
 -- the promise of `gorvisclen_close_chunks` (rules 18.6 and 18.10)
 abbrev pub CloseTold : ℕ → ℕ → ℕ → List ℕ → ℕ → List ℕ → Type 0
-CloseTold k t n out r out' = RowTold (row_of (closeOf (walkByNumbers k t n))) out r out'
+CloseTold k t n out r out' = RowTold (row_of (close_of (walk_by_numbers k t n))) out r out'

@@ -3,9 +3,9 @@
 // numbers to the front of the slice `out`, with 11 and 12 too. If `out` is too short nothing is written: 16, but 11 and
 // 12 are returned all the same (rule 1.22).
 ghost use Rattle.std.specs.Prelude.{◌≡◌, ◌+◌, ◌*◌};
-ghost use Rattle.tlv_chunks.specs.Call.{eventsOf};
-ghost use Rattle.tlv_chunks_abi.specs.Numbers.{lengthByNumbers, headerByNumbers, walkByNumbers, headerNumbers, walkNumbers};
-ghost use Rattle.tlv_chunks_abi.specs.Numbers.{toldStatus, toldNumbers, AnswerTold, ChunkTold, CloseTold};
+ghost use Rattle.tlv_chunks.specs.Call.{events_of};
+ghost use Rattle.tlv_chunks_abi.specs.Numbers.{length_by_numbers, header_by_numbers, walk_by_numbers, header_numbers, walk_numbers};
+ghost use Rattle.tlv_chunks_abi.specs.Numbers.{told_status, told_numbers, AnswerTold, ChunkTold, CloseTold};
 
 use abi::tell_row;
 use tlv_chunks::{ChunkTaken, ChunkWalk, Header, TakeChunk};
@@ -13,7 +13,7 @@ use tlv_chunks::{ChunkTaken, ChunkWalk, Header, TakeChunk};
 // The header that three numbers stand for, after its tag. Kind 4: the tag and 81 were read; 5: the tag and 82; 6: the
 // tag, 82 and the low byte of the number.
 fn length_by_numbers(kind: u8, tag: u32, number: u16) -> Header
-    ensures { result ≡ lengthByNumbers kind tag number }
+    ensures { result ≡ length_by_numbers kind tag number }
 {
     if kind == 4 {
         return Header::Length81(tag);
@@ -27,7 +27,7 @@ fn length_by_numbers(kind: u8, tag: u32, number: u16) -> Header
 // The header that three numbers stand for. Kind 1: the low byte of the tag was read; 2: its two low bytes, the high one
 // first; 3: the whole tag; 4 to 6: more.
 fn header_by_numbers(kind: u8, tag: u32, number: u16) -> Header
-    ensures { result ≡ headerByNumbers kind tag number }
+    ensures { result ≡ header_by_numbers kind tag number }
 {
     if kind == 1 {
         return Header::Tag1((tag % 256) as u8);
@@ -45,7 +45,7 @@ fn header_by_numbers(kind: u8, tag: u32, number: u16) -> Header
 // bytes as the number says and one more are missing; 8: stopped with 11; 9 and above: stopped with 12. So any three
 // numbers are a state.
 fn walk_by_numbers(kind: u8, tag: u32, number: u16) -> ChunkWalk
-    ensures { result ≡ walkByNumbers kind tag number }
+    ensures { result ≡ walk_by_numbers kind tag number }
 {
     if kind == 0 {
         return ChunkWalk::Boundary;
@@ -71,7 +71,7 @@ fn two_bytes(high: u8, low: u8) -> u64
 
 // The three numbers of a header: its kind, its tag as a number, and the byte after 82, or 0.
 fn header_numbers(header: Header) -> [u64; 3]
-    ensures { result ≡ headerNumbers header }
+    ensures { result ≡ header_numbers header }
 {
     match header {
         Header::Tag1(b1) => [1, b1 as u64, 0],
@@ -85,7 +85,7 @@ fn header_numbers(header: Header) -> [u64; 3]
 
 // The three numbers of a state: 0 for what a state of its kind has not.
 fn walk_numbers(walk: ChunkWalk) -> [u64; 3]
-    ensures { result ≡ walkNumbers walk }
+    ensures { result ≡ walk_numbers walk }
 {
     match walk {
         ChunkWalk::Boundary => [0, 0, 0],
@@ -98,7 +98,7 @@ fn walk_numbers(walk: ChunkWalk) -> [u64; 3]
 
 // The status of an answer: 11 and 12 if the walk has stopped, else 0.
 fn told_status(answer: TakeChunk) -> u8
-    ensures { result ≡ toldStatus (eventsOf answer) }
+    ensures { result ≡ told_status (events_of answer) }
 {
     match answer {
         TakeChunk::NeedMore => 0,
@@ -112,7 +112,7 @@ fn told_status(answer: TakeChunk) -> u8
 
 // The first four numbers of an answer: 1 if a header is complete, 1 if a value is complete, the tag, the length.
 fn told_numbers(answer: TakeChunk) -> [u64; 4]
-    ensures { result ≡ toldNumbers (eventsOf answer) }
+    ensures { result ≡ told_numbers (events_of answer) }
 {
     match answer {
         TakeChunk::NeedMore => [0, 0, 0, 0],

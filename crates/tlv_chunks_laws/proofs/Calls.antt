@@ -6,60 +6,60 @@ use mathlib.Core.Option.{none, some}
 use native.Mathlib.Omega.{arith}
 use lib.ListN.{drop}
 use Rattle.tlv_chunks.specs.Header.{byte_of}
-use Rattle.tlv_chunks.specs.Run.{Event, refusal, Step, headerByte, step, following, run}
-use Rattle.tlv_chunks.specs.Call.{Call, afterByte, upToReply, repeated, take_of, call_of, take-is}
+use Rattle.tlv_chunks.specs.Run.{Event, refusal, Step, header_byte, step, following, run}
+use Rattle.tlv_chunks.specs.Call.{Call, after_byte, up_to_reply, repeated, take_of, call_of, TakeIs}
 use Rattle.tlv_chunks.specs.declared.header.Header.{Header as Part}
 use Rattle.tlv_chunks.specs.declared.header.HeaderByte.{HeaderByte}
 use Rattle.tlv_chunks.specs.declared.header.HeaderByte.TheVariants as byte
 use Rattle.tlv_chunks.specs.declared.walk.ChunkWalk.{ChunkWalk}
 use Rattle.tlv_chunks.specs.declared.walk.ChunkWalk.TheVariants.{Boundary, Header, Value, End, Unreadable}
 use Rattle.tlv_chunks.specs.declared.walk.ChunkTaken.{ChunkTaken}
-use Rattle.tlv_chunks.proofs.Calls.{call-said}
-use Rattle.tlv_chunks_laws.specs.Session.{stoppedBy, onceAfter}
-use Rattle.tlv_chunks_laws.proofs.Runs.{run-stopped}
+use Rattle.tlv_chunks.proofs.Calls.{call_said}
+use Rattle.tlv_chunks_laws.specs.Session.{stopped_by, once_after}
+use Rattle.tlv_chunks_laws.proofs.Runs.{run_stopped}
 
 -- what is told, with repeated refusals once: after ts in the state w the state is v, and `new` is left of ts
 abbrev pub Once : ChunkWalk → List Event → List Event → ChunkWalk → Type 0
-Once w ts new v = (es : List Event) → onceAfter (stoppedBy w) (ts ++ es) ≡ new ++ onceAfter (stoppedBy v) es
+Once w ts new v = (es : List Event) → once_after (stopped_by w) (ts ++ es) ≡ new ++ once_after (stopped_by v) es
 
 -- a refusal that is told alone is what the state has stopped with
 abbrev pub Stops : List Event → ChunkWalk → Type 0
-Stops ts v = (k : ℕ) → ts ≡ refusal k ∷ [] → stoppedBy v ≡ some k
+Stops ts v = (k : ℕ) → ts ≡ refusal k ∷ [] → stopped_by v ≡ some k
 
 -- one byte
-header-once : (h : Part) (x : HeaderByte) → Once (Header h) (headerByte x).tells (headerByte x).tells (headerByte x).walk
-unfolding onceAfter
-header-once h (byte.More g) es = refl
-header-once h (byte.Complete t zero) es = refl
-header-once h (byte.Complete t (suc n)) es = refl
-header-once h byte.Unreadable es = refl
+header_once : (h : Part) (x : HeaderByte) → Once (Header h) (header_byte x).tells (header_byte x).tells (header_byte x).walk
+unfolding once_after
+header_once h (byte.More g) es = refl
+header_once h (byte.Complete t zero) es = refl
+header_once h (byte.Complete t (suc n)) es = refl
+header_once h byte.Unreadable es = refl
 
-step-once : (w : ChunkWalk) (b : ℕ) → Once w (step w b).tells (step w b).tells (step w b).walk
-unfolding step onceAfter
-step-once Boundary b es = refl
-step-once (Header h) b es = header-once h (byte_of h b) es
-step-once (Value zero) b es = refl
-step-once (Value (suc n)) b es = refl
-step-once End b es = refl
-step-once Unreadable b es = refl
+step_once : (w : ChunkWalk) (b : ℕ) → Once w (step w b).tells (step w b).tells (step w b).walk
+unfolding step once_after
+step_once Boundary b es = refl
+step_once (Header h) b es = header_once h (byte_of h b) es
+step_once (Value zero) b es = refl
+step_once (Value (suc n)) b es = refl
+step_once End b es = refl
+step_once Unreadable b es = refl
 
-not-told : {P : Type 0} (k : ℕ) → ◌≡◌ {A = List Event} [] (refusal k ∷ []) → P
-not-told k e = absurd (cons-ne-nil (refusal k) [] (sym e))
+not_told : {P : Type 0} (k : ℕ) → ◌≡◌ {A = List Event} [] (refusal k ∷ []) → P
+not_told k e = absurd (cons-ne-nil (refusal k) [] (sym e))
 
-header-stops : (x : HeaderByte) → Stops (headerByte x).tells (headerByte x).walk
-header-stops (byte.More g) k e = not-told k e
-header-stops (byte.Complete t zero) k e = absurd (let z : ◌≡◌ {A = ℕ} 0 1 = cc in omega arith)
-header-stops (byte.Complete t (suc n)) k e = absurd (let z : ◌≡◌ {A = ℕ} 0 1 = cc in omega arith)
-header-stops byte.Unreadable k e = let f : ◌≡◌ {A = ℕ} 12 k = cc in ap some f
+header_stops : (x : HeaderByte) → Stops (header_byte x).tells (header_byte x).walk
+header_stops (byte.More g) k e = not_told k e
+header_stops (byte.Complete t zero) k e = absurd (let z : ◌≡◌ {A = ℕ} 0 1 = cc in omega arith)
+header_stops (byte.Complete t (suc n)) k e = absurd (let z : ◌≡◌ {A = ℕ} 0 1 = cc in omega arith)
+header_stops byte.Unreadable k e = let f : ◌≡◌ {A = ℕ} 12 k = cc in ap some f
 
-step-stops : (w : ChunkWalk) (b : ℕ) → Stops (step w b).tells (step w b).walk
+step_stops : (w : ChunkWalk) (b : ℕ) → Stops (step w b).tells (step w b).walk
 unfolding step
-step-stops Boundary b k e = not-told k e
-step-stops (Header h) b k e = header-stops (byte_of h b) k e
-step-stops (Value zero) b k e = absurd (let z : ◌≡◌ {A = ℕ} 0 1 = cc in omega arith)
-step-stops (Value (suc n)) b k e = not-told k e
-step-stops End b k e = not-told k e
-step-stops Unreadable b k e = not-told k e
+step_stops Boundary b k e = not_told k e
+step_stops (Header h) b k e = header_stops (byte_of h b) k e
+step_stops (Value zero) b k e = absurd (let z : ◌≡◌ {A = ℕ} 0 1 = cc in omega arith)
+step_stops (Value (suc n)) b k e = not_told k e
+step_stops End b k e = not_told k e
+step_stops Unreadable b k e = not_told k e
 
 -- a call on the chunk s in the state w, whose run over s is r: r tells what is new of the call, and goes on from its
 -- state over the bytes that it did not take. A call that tells nothing takes all bytes, a refusal stops the walk
@@ -71,40 +71,40 @@ pub record Goes (w : ChunkWalk) (r : Step) (s : List ℕ) (c : Call) : Type 0 wh
   pub stops : Stops c.tells c.walk
 
 -- bytes up to the first that tells something
-after-byte : (w v : ChunkWalk) (ts : List Event) (b : ℕ) (s : List ℕ) (c : Call) → Once w ts ts v → Stops ts v → Goes v (run v s) s c
-    → Goes w (following ts (run v s)) (b ∷ s) (afterByte ts v c)
-after-byte w v [] b s c o h g =
+after_byte_lem : (w v : ChunkWalk) (ts : List Event) (b : ℕ) (s : List ℕ) (c : Call) → Once w ts ts v → Stops ts v → Goes v (run v s) s c
+    → Goes w (following ts (run v s)) (b ∷ s) (after_byte ts v c)
+after_byte_lem w v [] b s c o h g =
     record { new = g.new; runs = g.runs; onces = λ es. o (c.tells ++ es) ∙ g.onces es; used = g.used; stops = g.stops }
-after-byte w v (e ∷ ts) b s c o h g =
+after_byte_lem w v (e ∷ ts) b s c o h g =
     record { new = e ∷ ts; runs = refl; onces = o; used = λ f. absurd (cons-ne-nil e ts f); stops = h }
 
-up-to-reply : (w : ChunkWalk) (s : List ℕ) → Goes w (run w s) s (upToReply w s)
-unfolding run upToReply
-up-to-reply w [] = record { new = []; runs = refl; onces = λ es. refl; used = λ _. refl; stops = λ k e. not-told k e }
-up-to-reply w (b ∷ s) =
+up_to_reply_lem : (w : ChunkWalk) (s : List ℕ) → Goes w (run w s) s (up_to_reply w s)
+unfolding run up_to_reply
+up_to_reply_lem w [] = record { new = []; runs = refl; onces = λ es. refl; used = λ _. refl; stops = λ k e. not_told k e }
+up_to_reply_lem w (b ∷ s) =
     let x = step w b in
-    after-byte w x.walk x.tells b s (upToReply x.walk s) (step-once w b) (step-stops w b) (up-to-reply x.walk s)
+    after_byte_lem w x.walk x.tells b s (up_to_reply x.walk s) (step_once w b) (step_stops w b) (up_to_reply_lem x.walk s)
 
 -- a walk that has stopped: the repeated refusal is not new
-again : (w : ChunkWalk) (k : ℕ) → stoppedBy w ≡ some k → (s : List ℕ) → Once w (refusal k ∷ []) [] w → Goes w (run w s) s (repeated k w)
+again : (w : ChunkWalk) (k : ℕ) → stopped_by w ≡ some k → (s : List ℕ) → Once w (refusal k ∷ []) [] w → Goes w (run w s) s (repeated k w)
 again w k e s o =
     record {
       new = [];
-      runs = run-stopped w k e s ∙ sym (run-stopped w k e (drop 0 s));
+      runs = run_stopped w k e s ∙ sym (run_stopped w k e (drop 0 s));
       onces = o;
       used = λ f. absurd (cons-ne-nil (refusal k) [] f);
       stops = λ j f. let same : ◌≡◌ {A = ℕ} k j = cc in e ∙ ap some same;
     }
 
 -- every call
-pub take-goes : (w : ChunkWalk) (s : List ℕ) → Goes w (run w s) s (take_of w s)
-unfolding take_of onceAfter
-take-goes Boundary s = up-to-reply Boundary s
-take-goes (Header h) s = up-to-reply (Header h) s
-take-goes (Value n) s = up-to-reply (Value n) s
-take-goes End s = again End 11 refl s (λ es. refl)
-take-goes Unreadable s = again Unreadable 12 refl s (λ es. refl)
+pub take_goes : (w : ChunkWalk) (s : List ℕ) → Goes w (run w s) s (take_of w s)
+unfolding take_of once_after
+take_goes Boundary s = up_to_reply_lem Boundary s
+take_goes (Header h) s = up_to_reply_lem (Header h) s
+take_goes (Value n) s = up_to_reply_lem (Value n) s
+take_goes End s = again End 11 refl s (λ es. refl)
+take_goes Unreadable s = again Unreadable 12 refl s (λ es. refl)
 
 -- the same of an answer that `take` promises
-pub answer-goes : (w : ChunkWalk) (s : List ℕ) (x : ChunkTaken) → take-is w s x → Goes w (run w s) s (call_of x)
-answer-goes w s x p = subst (Goes w (run w s) s) (call-said (take_of w s) x p) (take-goes w s)
+pub answer_goes : (w : ChunkWalk) (s : List ℕ) (x : ChunkTaken) → TakeIs w s x → Goes w (run w s) s (call_of x)
+answer_goes w s x p = subst (Goes w (run w s) s) (call_said (take_of w s) x p) (take_goes w s)

@@ -7,10 +7,10 @@ use mathlib.Core.Option.{none}
 use native.Mathlib.Decide.{dec_le}
 use native.Mathlib.Omega.{arith}
 use lib.ListN.{length, drop, length-drop}
-use lib.ListN.{take as bytes-taken}
+use lib.ListN.{take as bytes_taken}
 use Rattle.tlv_chunks.specs.Header.{byte_of}
-use Rattle.tlv_chunks.specs.Run.{Event, head, end, Step, headerByte, step, run}
-use Rattle.tlv_chunks.specs.Call.{Call, afterByte, upToReply, take_of, eventsOf, new_is, take-is, close-is}
+use Rattle.tlv_chunks.specs.Run.{Event, head, end, Step, header_byte, step, run}
+use Rattle.tlv_chunks.specs.Call.{Call, after_byte, up_to_reply, take_of, events_of, NewIs, TakeIs, CloseIs}
 use Rattle.tlv_chunks.specs.declared.header.HeaderByte.{HeaderByte}
 use Rattle.tlv_chunks.specs.declared.header.HeaderByte.TheVariants as byte
 use Rattle.tlv_chunks.specs.declared.walk.ChunkWalk.{ChunkWalk}
@@ -18,87 +18,87 @@ use Rattle.tlv_chunks.specs.declared.walk.ChunkWalk.TheVariants.{Boundary, Heade
 use Rattle.tlv_chunks.specs.declared.walk.TakeChunk.{TakeChunk}
 use Rattle.tlv_chunks.specs.declared.walk.TakeChunk.TheVariants as answer
 use Rattle.tlv_chunks.specs.declared.walk.ChunkTaken.{ChunkTaken}
-use Rattle.tlv_chunks_laws.specs.Session.{stoppedBy, LastAnswer, Answered, stateAfter, Session}
-use Rattle.tlv_chunks_laws.proofs.Runs.{run-nothing}
-use Rattle.tlv_chunks_laws.proofs.Answers.{taken-tells, taken-within}
-use Rattle.tlv_chunks_laws.proofs.Stopped.{repeats-11, repeats-12, take-after-11, take-after-12}
+use Rattle.tlv_chunks_laws.specs.Session.{stopped_by, LastAnswer, Answered, state_after, Session}
+use Rattle.tlv_chunks_laws.proofs.Runs.{run_nothing}
+use Rattle.tlv_chunks_laws.proofs.Answers.{taken_tells, taken_within}
+use Rattle.tlv_chunks_laws.proofs.Stopped.{repeats_11, repeats_12, take_after_11, take_after_12}
 
 -- an answer that says this
 abbrev Said : List Event → Type 0
-Said ts = (a : TakeChunk) × (eventsOf a ≡ ts)
+Said ts = (a : TakeChunk) × (events_of a ≡ ts)
 
-header-said : (x : HeaderByte) → Said (headerByte x).tells
-header-said (byte.More g) = (answer.NeedMore, refl)
-header-said (byte.Complete t zero) = (answer.Empty t, refl)
-header-said (byte.Complete t (suc n)) = (answer.Head t (suc n), refl)
-header-said byte.Unreadable = (answer.Unreadable, refl)
+header_said : (x : HeaderByte) → Said (header_byte x).tells
+header_said (byte.More g) = (answer.NeedMore, refl)
+header_said (byte.Complete t zero) = (answer.Empty t, refl)
+header_said (byte.Complete t (suc n)) = (answer.Head t (suc n), refl)
+header_said byte.Unreadable = (answer.Unreadable, refl)
 
-step-said : (w : ChunkWalk) (b : ℕ) → Said (step w b).tells
+step_said : (w : ChunkWalk) (b : ℕ) → Said (step w b).tells
 unfolding step
-step-said Boundary b = (answer.NeedMore, refl)
-step-said (Header h) b = header-said (byte_of h b)
-step-said (Value zero) b = (answer.ValueEnd, refl)
-step-said (Value (suc n)) b = (answer.NeedMore, refl)
-step-said End b = (answer.NeedMore, refl)
-step-said Unreadable b = (answer.NeedMore, refl)
+step_said Boundary b = (answer.NeedMore, refl)
+step_said (Header h) b = header_said (byte_of h b)
+step_said (Value zero) b = (answer.ValueEnd, refl)
+step_said (Value (suc n)) b = (answer.NeedMore, refl)
+step_said End b = (answer.NeedMore, refl)
+step_said Unreadable b = (answer.NeedMore, refl)
 
-after-said : (ts : List Event) (v : ChunkWalk) (c : Call) → Said ts → Said c.tells → Said (afterByte ts v c).tells
-after-said [] v c a d = d
-after-said (e ∷ ts) v c a d = a
+after_said : (ts : List Event) (v : ChunkWalk) (c : Call) → Said ts → Said c.tells → Said (after_byte ts v c).tells
+after_said [] v c a d = d
+after_said (e ∷ ts) v c a d = a
 
-up-said : (w : ChunkWalk) (s : List ℕ) → Said (upToReply w s).tells
-unfolding upToReply
-up-said w [] = (answer.NeedMore, refl)
-up-said w (b ∷ s) = let x = step w b in after-said x.tells x.walk (upToReply x.walk s) (step-said w b) (up-said x.walk s)
+up_said : (w : ChunkWalk) (s : List ℕ) → Said (up_to_reply w s).tells
+unfolding up_to_reply
+up_said w [] = (answer.NeedMore, refl)
+up_said w (b ∷ s) = let x = step w b in after_said x.tells x.walk (up_to_reply x.walk s) (step_said w b) (up_said x.walk s)
 
-take-said : (w : ChunkWalk) (s : List ℕ) → Said (take_of w s).tells
+take_said : (w : ChunkWalk) (s : List ℕ) → Said (take_of w s).tells
 unfolding take_of
-take-said Boundary s = up-said Boundary s
-take-said (Header h) s = up-said (Header h) s
-take-said (Value n) s = up-said (Value n) s
-take-said End s = (answer.End, refl)
-take-said Unreadable s = (answer.Unreadable, refl)
+take_said Boundary s = up_said Boundary s
+take_said (Header h) s = up_said (Header h) s
+take_said (Value n) s = up_said (Value n) s
+take_said End s = (answer.End, refl)
+take_said Unreadable s = (answer.Unreadable, refl)
 
-pub answer-there : (w : ChunkWalk) (s : List ℕ) → (x : ChunkTaken) × take-is w s x
-answer-there w s =
-    let a = take-said w s in (
+pub answer_there : (w : ChunkWalk) (s : List ℕ) → (x : ChunkTaken) × TakeIs w s x
+answer_there w s =
+    let a = take_said w s in (
       record { answer = a.0; taken = (take_of w s).taken; walk = (take_of w s).walk },
       record { tells = a.1; taken = refl; walk = refl },
     )
 
 -- an answer that leaves something of the chunk to be handed in has taken some of it
 module _ (s : List ℕ) (x : ChunkTaken) (left : LastAnswer x.answer → ⊥) where
-  tells-something : (a : TakeChunk) → (LastAnswer a → ⊥) → eventsOf a ≡ [] → ⊥
-  tells-something answer.NeedMore n e = n tt
-  tells-something (answer.Head t m) n e = cons-ne-nil (head t m) [] e
-  tells-something (answer.Empty t) n e = cons-ne-nil (head t 0) (end ∷ []) e
-  tells-something answer.ValueEnd n e = cons-ne-nil end [] e
-  tells-something answer.End n e = n tt
-  tells-something answer.Unreadable n e = n tt
+  tells_something : (a : TakeChunk) → (LastAnswer a → ⊥) → events_of a ≡ [] → ⊥
+  tells_something answer.NeedMore n e = n tt
+  tells_something (answer.Head t m) n e = cons-ne-nil (head t m) [] e
+  tells_something (answer.Empty t) n e = cons-ne-nil (head t 0) (end ∷ []) e
+  tells_something answer.ValueEnd n e = cons-ne-nil end [] e
+  tells_something answer.End n e = n tt
+  tells_something answer.Unreadable n e = n tt
 
-  goes_on : (w : ChunkWalk) → stoppedBy w ≡ none → take-is w s x → (1 ≤ x.taken) × (x.taken ≤ length s)
+  goes_on : (w : ChunkWalk) → stopped_by w ≡ none → TakeIs w s x → (1 ≤ x.taken) × (x.taken ≤ length s)
   goes_on w goes p =
       elim (dec_le 1 x.taken) [
-        | yes h ↦ (h, taken-within w s x p)
+        | yes h ↦ (h, taken_within w s x p)
         | no h ↦
             let zero-taken : x.taken ≡ 0 = omega (arith, h) in
-            let run_none : run w (bytes-taken x.taken s) ≡ run w [] = ap (λ (k : ℕ). run w (bytes-taken k s)) zero-taken in
-            absurd (tells-something x.answer left
-            (ap (λ (r : Step). r.tells) (sym (taken-tells w s x p goes) ∙ run_none ∙ run-nothing w)))
+            let run_none : run w (bytes_taken x.taken s) ≡ run w [] = ap (λ (k : ℕ). run w (bytes_taken k s)) zero-taken in
+            absurd (tells_something x.answer left
+            (ap (λ (r : Step). r.tells) (sym (taken_tells w s x p goes) ∙ run_none ∙ run_nothing w)))
       ]
 
-  some-taken : (w : ChunkWalk) → take-is w s x → (1 ≤ x.taken) × (x.taken ≤ length s)
-  some-taken Boundary p = goes_on Boundary refl p
-  some-taken (Header h) p = goes_on (Header h) refl p
-  some-taken (Value n) p = goes_on (Value n) refl p
-  some-taken End p = absurd (left (subst (λ (y : ChunkTaken). LastAnswer y.answer) (sym (take-after-11 x s p)) tt))
-  some-taken Unreadable p = absurd (left (subst (λ (y : ChunkTaken). LastAnswer y.answer) (sym (take-after-12 x s p)) tt))
+  some_taken : (w : ChunkWalk) → TakeIs w s x → (1 ≤ x.taken) × (x.taken ≤ length s)
+  some_taken Boundary p = goes_on Boundary refl p
+  some_taken (Header h) p = goes_on (Header h) refl p
+  some_taken (Value n) p = goes_on (Value n) refl p
+  some_taken End p = absurd (left (subst (λ (y : ChunkTaken). LastAnswer y.answer) (sym (take_after_11 x s p)) tt))
+  some_taken Unreadable p = absurd (left (subst (λ (y : ChunkTaken). LastAnswer y.answer) (sym (take_after_12 x s p)) tt))
 
 -- the answers to one chunk
 abbrev Answers : ChunkWalk → List ℕ → Type 0
 Answers w s = (xs : List ChunkTaken) × Answered w s xs
 
-one_more : (w : ChunkWalk) (s : List ℕ) (x : ChunkTaken) → take-is w s x → (xs : List ChunkTaken) → Answered x.walk (drop x.taken s) xs
+one_more : (w : ChunkWalk) (s : List ℕ) (x : ChunkTaken) → TakeIs w s x → (xs : List ChunkTaken) → Answered x.walk (drop x.taken s) xs
     → Answers w s
 one_more w s x p [] h = absurd h
 one_more w s x p (y ∷ ys) h = (x ∷ y ∷ ys, (p, h))
@@ -111,35 +111,35 @@ by_last answer.ValueEnd h g = g (λ u. u)
 by_last answer.End h g = h tt
 by_last answer.Unreadable h g = h tt
 
-answers-in : (n : ℕ) (w : ChunkWalk) (s : List ℕ) → length s ≤ n → Answers w s
-answers-in zero w s few =
-    let x = answer-there w s in
-    by_last x.0.answer (λ u. (x.0 ∷ [], (x.1, u))) (λ left. absurd (omega (arith, few, some-taken s x.0 left w x.1)))
-answers-in (suc n) w s few =
-    let x = answer-there w s in
+answers_in : (n : ℕ) (w : ChunkWalk) (s : List ℕ) → length s ≤ n → Answers w s
+answers_in zero w s few =
+    let x = answer_there w s in
+    by_last x.0.answer (λ u. (x.0 ∷ [], (x.1, u))) (λ left. absurd (omega (arith, few, some_taken s x.0 left w x.1)))
+answers_in (suc n) w s few =
+    let x = answer_there w s in
     by_last x.0.answer (λ u. (x.0 ∷ [], (x.1, u))) (λ left.
-    let taken = some-taken s x.0 left w x.1 in
-    let rest = answers-in n x.0.walk (drop x.0.taken s) (omega (arith, few, taken, length-drop x.0.taken s)) in
+    let taken = some_taken s x.0 left w x.1 in
+    let rest = answers_in n x.0.walk (drop x.0.taken s) (omega (arith, few, taken, length-drop x.0.taken s)) in
     one_more w s x.0 x.1 rest.0 rest.1)
 
-pub answers-there : (w : ChunkWalk) (s : List ℕ) → (xs : List ChunkTaken) × Answered w s xs
-answers-there w s = answers-in (length s) w s (omega arith)
+pub answers_there : (w : ChunkWalk) (s : List ℕ) → (xs : List ChunkTaken) × Answered w s xs
+answers_there w s = answers_in (length s) w s (omega arith)
 
 -- the answers to any chunks
-pub session-there : (w : ChunkWalk) (ss : List (List ℕ)) → (xss : List (List ChunkTaken)) × Session w ss xss
-session-there w [] = ([], tt)
-session-there w (s ∷ ss) =
-    let xs = answers-there w s in
-    let rest = session-there (stateAfter w xs.0) ss in
+pub session_there : (w : ChunkWalk) (ss : List (List ℕ)) → (xss : List (List ChunkTaken)) × Session w ss xss
+session_there w [] = ([], tt)
+session_there w (s ∷ ss) =
+    let xs = answers_there w s in
+    let rest = session_there (state_after w xs.0) ss in
     (xs.0 ∷ rest.0, (xs.1, rest.1))
 
 -- a walk that `new` gives, and the answer to closing in every state
-pub new-there : (w : ChunkWalk) × new_is w
-new-there = (Boundary, refl)
+pub new_there : (w : ChunkWalk) × NewIs w
+new_there = (Boundary, refl)
 
-pub close-there : (w : ChunkWalk) → (y : ChunkTaken) × close-is w y
-close-there Boundary = (repeats-11, record { tells = refl; taken = refl; walk = refl })
-close-there (Header h) = (repeats-12, record { tells = refl; taken = refl; walk = refl })
-close-there (Value n) = (repeats-12, record { tells = refl; taken = refl; walk = refl })
-close-there End = (repeats-11, record { tells = refl; taken = refl; walk = refl })
-close-there Unreadable = (repeats-12, record { tells = refl; taken = refl; walk = refl })
+pub close_there : (w : ChunkWalk) → (y : ChunkTaken) × CloseIs w y
+close_there Boundary = (repeats_11, record { tells = refl; taken = refl; walk = refl })
+close_there (Header h) = (repeats_12, record { tells = refl; taken = refl; walk = refl })
+close_there (Value n) = (repeats_12, record { tells = refl; taken = refl; walk = refl })
+close_there End = (repeats_11, record { tells = refl; taken = refl; walk = refl })
+close_there Unreadable = (repeats_12, record { tells = refl; taken = refl; walk = refl })

@@ -5,7 +5,7 @@ use Rattle.basis.specs.Number.{be}
 use Rattle.tlv.specs.Tag.{Tag, tag_of}
 use Rattle.tlv.specs.Len.{Len, len_of}
 use Rattle.tlv.specs.declared.Reading.TheVariants.{Crate}
-use Rattle.tlv_write.specs.Written.{tagBytes}
+use Rattle.tlv_write.specs.Written.{tag_bytes}
 use Rattle.tlv_chunks.specs.declared.header.Header.{Header as Part}
 use Rattle.tlv_chunks.specs.declared.header.Header.TheVariants.{Tag1, Tag2, Length81, Length82, Length82High}
 use Rattle.tlv_chunks.specs.declared.header.Header.TheVariants as part
@@ -13,24 +13,24 @@ use Rattle.tlv_chunks.specs.declared.walk.ChunkWalk.{ChunkWalk}
 use Rattle.tlv_chunks.specs.declared.walk.ChunkWalk.TheVariants.{Boundary, Header, Value, End, Unreadable}
 
 -- the bytes of a tag, from its number
-abbrev pub ownBytes : ℕ → List ℕ
-ownBytes t = tagBytes (be 3 t)
+abbrev pub own_bytes : ℕ → List ℕ
+own_bytes t = tag_bytes (be 3 t)
 
 -- the bytes that were read of a header
-unfoldable pub headerBytes : Part → List ℕ
-headerBytes (Tag1 a) = a ∷ []
-headerBytes (Tag2 a b) = a ∷ b ∷ []
-headerBytes (part.Tag t) = ownBytes t
-headerBytes (Length81 t) = ownBytes t ++ (0x81 ∷ [])
-headerBytes (Length82 t) = ownBytes t ++ (0x82 ∷ [])
-headerBytes (Length82High t a) = ownBytes t ++ (0x82 ∷ a ∷ [])
+unfoldable pub header_bytes : Part → List ℕ
+header_bytes (Tag1 a) = a ∷ []
+header_bytes (Tag2 a b) = a ∷ b ∷ []
+header_bytes (part.Tag t) = own_bytes t
+header_bytes (Length81 t) = own_bytes t ++ (0x81 ∷ [])
+header_bytes (Length82 t) = own_bytes t ++ (0x82 ∷ [])
+header_bytes (Length82High t a) = own_bytes t ++ (0x82 ∷ a ∷ [])
 
 -- bytes s that start with a header, whose value lacks n bytes
 pub record Lacks (s : List ℕ) (n : ℕ) : Type 0 where
   pub tag : Tag
   pub len : Len
-  pub is-tag : tag_of Crate s ≡ ok tag
-  pub is-len : len_of Crate (drop tag.size s) ≡ ok len
+  pub is_tag : tag_of Crate s ≡ ok tag
+  pub is_len : len_of Crate (drop tag.size s) ≡ ok len
   pub missing : length s + n ≡ tag.size + len.size + len.number
 
 -- what a state says: s are the bytes from where the walk of the record stops, k is the number of that stop. A boundary:
@@ -39,7 +39,7 @@ pub record Lacks (s : List ℕ) (n : ℕ) : Type 0 where
 -- 11: the closing call does
 abbrev pub Means : List ℕ → ℕ → ChunkWalk → Type 0
 Means s k Boundary = (s ≡ []) × (k ≡ 11)
-Means s k (Header h) = (s ≡ headerBytes h) × (k ≡ 12)
+Means s k (Header h) = (s ≡ header_bytes h) × (k ≡ 12)
 Means s k (Value n) = Lacks s (n + 1) × (k ≡ 12)
 Means s k End = ⊥
 Means s k Unreadable = k ≡ 12

@@ -4,7 +4,7 @@
 use Rattle.std.specs.Prelude.{ℕ, cond, List, [], ◌∷◌, ◌++◌, eqb, drop}
 use Rattle.std.proofs.Math.Option.{Option, none, some}
 use Rattle.tlv_chunks.specs.Run.{Event, head, end, refusal}
-use Rattle.tlv_chunks.specs.Call.{eventsOf, take-is}
+use Rattle.tlv_chunks.specs.Call.{events_of, TakeIs}
 use Rattle.tlv_chunks.specs.declared.walk.ChunkWalk.{ChunkWalk}
 use Rattle.tlv_chunks.specs.declared.walk.ChunkWalk.TheVariants.{Boundary, Header, Value, End, Unreadable}
 use Rattle.tlv_chunks.specs.declared.walk.TakeChunk.{TakeChunk}
@@ -12,12 +12,12 @@ use Rattle.tlv_chunks.specs.declared.walk.TakeChunk.TheVariants as answer
 use Rattle.tlv_chunks.specs.declared.walk.ChunkTaken.{ChunkTaken}
 
 -- the number that a walk has stopped with
-abbrev pub stoppedBy : ChunkWalk → Option ℕ
-stoppedBy Boundary = none
-stoppedBy (Header h) = none
-stoppedBy (Value n) = none
-stoppedBy End = some 11
-stoppedBy Unreadable = some 12
+abbrev pub stopped_by : ChunkWalk → Option ℕ
+stopped_by Boundary = none
+stopped_by (Header h) = none
+stopped_by (Value n) = none
+stopped_by End = some 11
+stopped_by Unreadable = some 12
 
 -- the last answer to a chunk: more bytes are needed, or it is a refusal
 abbrev pub LastAnswer : TakeChunk → Type 0
@@ -32,34 +32,34 @@ LastAnswer answer.Unreadable = Unit {0}
 -- `take` promises
 abbrev pub Answered : ChunkWalk → List ℕ → List ChunkTaken → Type 0
 Answered w s [] = ⊥
-Answered w s (x ∷ []) = take-is w s x × LastAnswer x.answer
-Answered w s (x ∷ y ∷ xs) = take-is w s x × Answered x.walk (drop x.taken s) (y ∷ xs)
+Answered w s (x ∷ []) = TakeIs w s x × LastAnswer x.answer
+Answered w s (x ∷ y ∷ xs) = TakeIs w s x × Answered x.walk (drop x.taken s) (y ∷ xs)
 
 -- the state after some answers
-abbrev pub stateAfter : ChunkWalk → List ChunkTaken → ChunkWalk
-stateAfter w [] = w
-stateAfter w (x ∷ xs) = stateAfter x.walk xs
+abbrev pub state_after : ChunkWalk → List ChunkTaken → ChunkWalk
+state_after w [] = w
+state_after w (x ∷ xs) = state_after x.walk xs
 
 -- the answers to chunks that are handed in one after the other, those to each chunk in a list
 abbrev pub Session : ChunkWalk → List (List ℕ) → List (List ChunkTaken) → Type 0
 Session w [] [] = Unit {0}
 Session w [] (xs ∷ xss) = ⊥
 Session w (s ∷ ss) [] = ⊥
-Session w (s ∷ ss) (xs ∷ xss) = Answered w s xs × Session (stateAfter w xs) ss xss
+Session w (s ∷ ss) (xs ∷ xss) = Answered w s xs × Session (state_after w xs) ss xss
 
 -- all that some answers say
 unfoldable pub told : List ChunkTaken → List Event
 told [] = []
-told (x ∷ xs) = eventsOf x.answer ++ told xs
+told (x ∷ xs) = events_of x.answer ++ told xs
 
 -- a repeated refusal once: k is the refusal that was told last, if nothing was told after it; the same one again is left
 -- out
-unfoldable pub onceAfter : Option ℕ → List Event → List Event
-onceAfter k [] = []
-onceAfter k (head t n ∷ es) = head t n ∷ onceAfter none es
-onceAfter k (end ∷ es) = end ∷ onceAfter none es
-onceAfter none (refusal j ∷ es) = refusal j ∷ onceAfter (some j) es
-onceAfter (some k) (refusal j ∷ es) = cond (eqb k j) (onceAfter (some k) es) (refusal j ∷ onceAfter (some j) es)
+unfoldable pub once_after : Option ℕ → List Event → List Event
+once_after k [] = []
+once_after k (head t n ∷ es) = head t n ∷ once_after none es
+once_after k (end ∷ es) = end ∷ once_after none es
+once_after none (refusal j ∷ es) = refusal j ∷ once_after (some j) es
+once_after (some k) (refusal j ∷ es) = cond (eqb k j) (once_after (some k) es) (refusal j ∷ once_after (some j) es)
 
 abbrev pub once : List Event → List Event
-once es = onceAfter none es
+once es = once_after none es

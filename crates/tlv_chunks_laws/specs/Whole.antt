@@ -9,34 +9,34 @@ use Rattle.tlv.specs.declared.Reading.TheVariants.{Crate}
 use Rattle.tlv_chunks.specs.Run.{Event, head, end, refusal}
 
 -- head and end of each object
-unfoldable pub objectsTell : List Item → List Event
-objectsTell [] = []
-objectsTell (i ∷ items) = head i.tag i.len ∷ end ∷ objectsTell items
+unfoldable pub objects_tell : List Item → List Event
+objects_tell [] = []
+objects_tell (i ∷ items) = head i.tag i.len ∷ end ∷ objects_tell items
 
 -- the head of an object that is cut in its value: tag and length can be read. There is none if they cannot
-abbrev pub headOfLen : Tag → Reply Len → List Event
-headOfLen t (ok l) = head t.number l.number ∷ []
-headOfLen t (refused k) = []
+abbrev pub head_of_len : Tag → Reply Len → List Event
+head_of_len t (ok l) = head t.number l.number ∷ []
+head_of_len t (refused k) = []
 
-abbrev pub headOfTag : List ℕ → Reply Tag → List Event
-headOfTag s (ok t) = headOfLen t (len_of Crate (drop t.size s))
-headOfTag s (refused k) = []
+abbrev pub head_of_tag : List ℕ → Reply Tag → List Event
+head_of_tag s (ok t) = head_of_len t (len_of Crate (drop t.size s))
+head_of_tag s (refused k) = []
 
-unfoldable pub cutHead : List ℕ → List Event
-cutHead s = headOfTag s (tag_of Crate s)
+unfoldable pub cut_head : List ℕ → List Event
+cut_head s = head_of_tag s (tag_of Crate s)
 
 -- all that a record tells up to its closing: its objects, the head of one that is cut, and the number of the stop
-unfoldable pub wholeTells : List ℕ → List Event
-wholeTells s =
-    objectsTell (walk Crate 0 s).items ++ (cutHead (drop (walk Crate 0 s).stop.place s) ++ (refusal (walk Crate 0 s).stop.number ∷ []))
+unfoldable pub whole_tells : List ℕ → List Event
+whole_tells s =
+    objects_tell (walk Crate 0 s).items ++ (cut_head (drop (walk Crate 0 s).stop.place s) ++ (refusal (walk Crate 0 s).stop.number ∷ []))
 
 -- an object by its tag and its length
 pub record TagLen : Type 0 where
   pub tag : ℕ
   pub len : ℕ
 
-abbrev pub tagLens : List Item → List TagLen
-tagLens items = map (λ i. record { tag = i.tag; len = i.len }) items
+abbrev pub tag_lens : List Item → List TagLen
+tag_lens items = map (λ i. record { tag = i.tag; len = i.len }) items
 
 -- of all that was told: the finished objects, which are the heads that an end follows; the numbers of the refusals
 unfoldable pub finished : List Event → List TagLen

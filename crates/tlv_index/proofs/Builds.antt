@@ -8,39 +8,39 @@ use borrow.Author.Tests.{lt-ltb, le-ltb, ltb-true, ltb-false}
 use lib.Dec.{ltb}
 use lib.ListN.{length, length-map}
 use Rattle.basis.specs.Reply.{ok, refused}
-use Rattle.basis.specs.Over.{overAt}
+use Rattle.basis.specs.Over.{over_at}
 use Rattle.basis.proofs.Reply.{refused_not_ok}
 use Rattle.tlv.specs.Object.{Item, Stop}
 use Rattle.tlv.specs.Walk.{Walk, walk}
 use Rattle.tlv.specs.declared.Reading.TheVariants.{Crate}
-use Rattle.tlv_index.specs.Index.{Kind, crateKind, Index, entry_of, index_of, built}
-use Rattle.tlv_index.specs.File.{fileOf}
-use Rattle.tlv_index.specs.Build.{written, IndexWritten, build-index-is}
-use Rattle.tlv_index.specs.Steps.{Count, counted, indexTo}
+use Rattle.tlv_index.specs.Index.{Kind, crate_kind, Index, entry_of, index_of, built}
+use Rattle.tlv_index.specs.File.{file_of}
+use Rattle.tlv_index.specs.Build.{written, IndexWritten, BuildIndexIs}
+use Rattle.tlv_index.specs.Steps.{Count, counted, index_to}
 use Rattle.tlv_index.specs.declared.build.BuildIndex.{BuildIndex}
 use Rattle.tlv_index.specs.declared.build.BuildIndex.TheVariants.{Written, Refused}
-use Rattle.tlv_index.proofs.Sections.{length-file}
+use Rattle.tlv_index.proofs.Sections.{length_file}
 
 -- the index of n objects: 16 if its file does not fit, else it is written
 module _ (items : List Item) (i p n : ℕ) (h : length items ≡ n) (b : List ℕ) (at : ℕ) where
   abbrev x : Index
-  x = indexTo items i p
+  x = index_to items i p
 
-  pub size : length (fileOf 2 x) ≡ 12 + 7 * n
-  size = omega (arith, length-file 2 x n (length-map items entry_of ∙ h))
+  pub size : length (file_of 2 x) ≡ 12 + 7 * n
+  size = omega (arith, length_file 2 x n (length-map items entry_of ∙ h))
 
   pub no_room : length b < at + (12 + 7 * n) → IndexWritten x b at (Refused 16) b
   no_room g = let t = lt-ltb _ _ g in record { reply = rw (size, t); buffer = rw (size, t) }
 
-  pub has_room : (after : List ℕ) → at + (12 + 7 * n) ≤ length b → after ≡ overAt at (fileOf 2 x) b
+  pub has_room : (after : List ℕ) → at + (12 + 7 * n) ≤ length b → after ≡ over_at at (file_of 2 x) b
       → IndexWritten x b at (Written (12 + 7 * n)) after
   has_room after g e = let t = le-ltb _ _ g in record { reply = rw (size, t) (ap ok (sym size)); buffer = e ∙ rw (size, t) }
 
 -- what the count of a walk says
 module _ (w : Walk) where
-  pub counted-says : (c : Count) → counted w ≡ ok c → (length w.items ≡ c.objects) × (c.objects ≤ 255) × (w.stop ≡ c.stop)
+  pub counted_says : (c : Count) → counted w ≡ ok c → (length w.items ≡ c.objects) × (c.objects ≤ 255) × (w.stop ≡ c.stop)
   unfolding counted
-  counted-says c = by_number (ltb 255 (length w.items)) refl
+  counted_says c = by_number (ltb 255 (length w.items)) refl
     where
       by_number : (t : Bool) → ltb 255 (length w.items) ≡ t → counted w ≡ ok c
           → (length w.items ≡ c.objects) × (c.objects ≤ 255) × (w.stop ≡ c.stop)
@@ -51,9 +51,9 @@ module _ (w : Walk) where
           let count = ap (λ (y : Count). y.objects) same in
           (count, omega (arith, few, count), ap (λ (y : Count). y.stop) same)
 
-  pub counted-24 : (k : ℕ) → counted w ≡ refused k → 255 < length w.items
+  pub counted_24 : (k : ℕ) → counted w ≡ refused k → 255 < length w.items
   unfolding counted
-  counted-24 k = by_number (ltb 255 (length w.items)) refl
+  counted_24 k = by_number (ltb 255 (length w.items)) refl
     where
       by_number : (t : Bool) → ltb 255 (length w.items) ≡ t → counted w ≡ refused k → 255 < length w.items
       by_number true e g = ltb-true 255 (length w.items) e
@@ -61,37 +61,37 @@ module _ (w : Walk) where
 
 -- 24 for a record that is too long, or has more than 255 objects; else its index
 module _ (k : Kind) (s : List ℕ) where
-  pub built-long : k.longest < length s → built k s ≡ refused 24
+  pub built_long : k.longest < length s → built k s ≡ refused 24
   unfolding built
-  built-long h = rw (lt-ltb _ _ h)
+  built_long h = rw (lt-ltb _ _ h)
 
-  pub built-many : length s ≤ k.longest → 255 < length (walk k.reading 0 s).items → built k s ≡ refused 24
+  pub built_many : length s ≤ k.longest → 255 < length (walk k.reading 0 s).items → built k s ≡ refused 24
   unfolding built
-  built-many h g = rw (le-ltb _ _ h, lt-ltb _ _ g)
+  built_many h g = rw (le-ltb _ _ h, lt-ltb _ _ g)
 
-  pub built-few : length s ≤ k.longest → length (walk k.reading 0 s).items ≤ 255 → built k s ≡ ok (index_of (walk k.reading 0 s))
+  pub built_few : length s ≤ k.longest → length (walk k.reading 0 s).items ≤ 255 → built k s ≡ ok (index_of (walk k.reading 0 s))
   unfolding built
-  built-few h g = rw (le-ltb _ _ h, le-ltb _ _ g)
+  built_few h g = rw (le-ltb _ _ h, le-ltb _ _ g)
 
 -- the promise of `build_index`, from its steps
 module _ (s b : List ℕ) (at : ℕ) where
   abbrev objects : Walk
   objects = walk Crate 0 s
 
-  pub too_long : 65535 < length s → build-index-is s b at (Refused 24) b
+  pub too_long : 65535 < length s → BuildIndexIs s b at (Refused 24) b
   unfolding written
-  too_long h = let e = built-long crateKind s h in record { reply = rw e; buffer = rw e }
+  too_long h = let e = built_long crate_kind s h in record { reply = rw e; buffer = rw e }
 
   module _ (h : length s ≤ 65535) where
-    pub too_many : (k : ℕ) → counted objects ≡ refused k → build-index-is s b at (Refused 24) b
+    pub too_many : (k : ℕ) → counted objects ≡ refused k → BuildIndexIs s b at (Refused 24) b
     unfolding written
-    too_many k g = let e = built-many crateKind s h (counted-24 objects k g) in record { reply = rw e; buffer = rw e }
+    too_many k g = let e = built_many crate_kind s h (counted_24 objects k g) in record { reply = rw e; buffer = rw e }
 
-    pub as-counted : (n i p : ℕ) (y : BuildIndex) (after : List ℕ) → counted objects ≡ ok (record { objects = n; stop = record { number = i; place = p } })
-        → IndexWritten (indexTo objects.items i p) b at y after → build-index-is s b at y after
+    pub as_counted : (n i p : ℕ) (y : BuildIndex) (after : List ℕ) → counted objects ≡ ok (record { objects = n; stop = record { number = i; place = p } })
+        → IndexWritten (index_to objects.items i p) b at y after → BuildIndexIs s b at y after
     unfolding written
-    as-counted n i p y after g f =
-        let says = counted-says objects _ g in
-        let few = built-few crateKind s h (omega (arith, says.0, says.1)) in
-        let same : ◌≡◌ {A = Index} (index_of objects) (indexTo objects.items i p) = ap (λ (e : Stop). record { entries = (index_of objects).entries; stop = e }) says.2 in
+    as_counted n i p y after g f =
+        let says = counted_says objects _ g in
+        let few = built_few crate_kind s h (omega (arith, says.0, says.1)) in
+        let same : ◌≡◌ {A = Index} (index_of objects) (index_to objects.items i p) = ap (λ (e : Stop). record { entries = (index_of objects).entries; stop = e }) says.2 in
         record { reply = f.reply ∙ rw (few, same); buffer = f.buffer ∙ rw (few, same) }

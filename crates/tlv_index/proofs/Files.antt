@@ -9,123 +9,123 @@ use borrow.Author.Tests.{eq-eqb, ne_eqb, le-leb, lt-leb, leb-true, eqb-true}
 use lib.Dec.{leb, eqb}
 use lib.ListN.{length}
 use Rattle.basis.specs.Reply.{ok, refused}
-use Rattle.basis.proofs.Truth.{on-cond, both_true}
+use Rattle.basis.proofs.Truth.{on_cond, both_true}
 use Rattle.tlv_index.specs.Index.{Kind}
 use Rattle.tlv_index.specs.File.{
   field,
-  placesCount,
-  lengthsCount,
-  endCount,
-  fileSize,
-  entryIn,
-  entriesFrom,
-  indexIn,
-  isReason,
-  endsAs,
-  countsAgree,
-  isFile,
+  places_count,
+  lengths_count,
+  end_count,
+  file_size,
+  entry_in,
+  entries_from,
+  index_in,
+  is_reason,
+  ends_as,
+  counts_agree,
+  is_file,
   decoded,
   checked,
 }
 
 -- a reason is 11 or 12
-pub reason-end : (k : ℕ) → k ≡ 11 → isReason k ≡ true
-unfolding isReason
-reason-end k e = rw (eq-eqb k 11 e)
+pub reason_end : (k : ℕ) → k ≡ 11 → is_reason k ≡ true
+unfolding is_reason
+reason_end k e = rw (eq-eqb k 11 e)
 
-pub reason-other : (k : ℕ) → (k ≡ 11 → ⊥) → isReason k ≡ eqb k 12
-unfolding isReason
-reason-other k e = rw (ne_eqb k 11 e)
+pub reason_other : (k : ℕ) → (k ≡ 11 → ⊥) → is_reason k ≡ eqb k 12
+unfolding is_reason
+reason_other k e = rw (ne_eqb k 11 e)
 
 module _ (w n : ℕ) (f : List ℕ) where
-  pub one_end : field 2 (endCount w n) f ≡ 1 → endsAs w n f ≡ isReason (field 2 (endCount w n + 2) f)
-  unfolding endsAs
+  pub one_end : field 2 (end_count w n) f ≡ 1 → ends_as w n f ≡ is_reason (field 2 (end_count w n + 2) f)
+  unfolding ends_as
   one_end e = rw (eq-eqb _ 1 e)
 
-  pub other-end : (field 2 (endCount w n) f ≡ 1 → ⊥) → endsAs w n f ≡ false
-  unfolding endsAs
-  other-end e = rw (ne_eqb _ 1 e)
+  pub other_end : (field 2 (end_count w n) f ≡ 1 → ⊥) → ends_as w n f ≡ false
+  unfolding ends_as
+  other_end e = rw (ne_eqb _ 1 e)
 
-  pub counts_same : field 2 (placesCount w n) f ≡ n → field 2 (lengthsCount w n) f ≡ n → countsAgree w n f ≡ endsAs w n f
-  unfolding countsAgree
+  pub counts_same : field 2 (places_count w n) f ≡ n → field 2 (lengths_count w n) f ≡ n → counts_agree w n f ≡ ends_as w n f
+  unfolding counts_agree
   counts_same e g = rw (eq-eqb _ n e, eq-eqb _ n g)
 
-  pub places-other : (field 2 (placesCount w n) f ≡ n → ⊥) → countsAgree w n f ≡ false
-  unfolding countsAgree
-  places-other e = rw (ne_eqb _ n e)
+  pub places_other : (field 2 (places_count w n) f ≡ n → ⊥) → counts_agree w n f ≡ false
+  unfolding counts_agree
+  places_other e = rw (ne_eqb _ n e)
 
-  pub lengths-other : field 2 (placesCount w n) f ≡ n → (field 2 (lengthsCount w n) f ≡ n → ⊥) → countsAgree w n f ≡ false
-  unfolding countsAgree
-  lengths-other e g = rw (eq-eqb _ n e, ne_eqb _ n g)
+  pub lengths_other : field 2 (places_count w n) f ≡ n → (field 2 (lengths_count w n) f ≡ n → ⊥) → counts_agree w n f ≡ false
+  unfolding counts_agree
+  lengths_other e g = rw (eq-eqb _ n e, ne_eqb _ n g)
 
   -- as many entries as are asked for
-  pub length-entries : (k i : ℕ) → length (entriesFrom w n f i k) ≡ k
-  unfolding entriesFrom
-  length-entries zero i = refl
-  length-entries (suc k) i = ap suc (length-entries k (suc i))
+  pub length_entries : (k i : ℕ) → length (entries_from w n f i k) ≡ k
+  unfolding entries_from
+  length_entries zero i = refl
+  length_entries (suc k) i = ap suc (length_entries k (suc i))
 
   -- the entries from number i on: none is left, or entry i and those after it
-  pub entries-end : (i k : ℕ) → k ≡ 0 → entriesFrom w n f i k ≡ []
-  unfolding entriesFrom
-  entries-end i k e = rw e
+  pub entries_end : (i k : ℕ) → k ≡ 0 → entries_from w n f i k ≡ []
+  unfolding entries_from
+  entries_end i k e = rw e
 
-  pub entries_next : (i k : ℕ) → entriesFrom w n f i (suc k) ≡ entryIn w n f i ∷ entriesFrom w n f (i + 1) k
-  unfolding entriesFrom
+  pub entries_next : (i k : ℕ) → entries_from w n f i (suc k) ≡ entry_in w n f i ∷ entries_from w n f (i + 1) k
+  unfolding entries_from
   entries_next i k = rw (add-one i)
 
   -- the counts and the reason of a file
-  pub counts-parts : countsAgree w n f ≡ true → (field 2 (placesCount w n) f ≡ n) × (field 2 (lengthsCount w n) f ≡ n) × (endsAs w n f ≡ true)
-  unfolding countsAgree
-  counts-parts h =
-      let places = both_true (eqb (field 2 (placesCount w n) f) n) (cond (eqb (field 2 (lengthsCount w n) f) n) (endsAs w n f) false) h in
-      let lengths = both_true (eqb (field 2 (lengthsCount w n) f) n) (endsAs w n f) places.1 in
+  pub counts_parts : counts_agree w n f ≡ true → (field 2 (places_count w n) f ≡ n) × (field 2 (lengths_count w n) f ≡ n) × (ends_as w n f ≡ true)
+  unfolding counts_agree
+  counts_parts h =
+      let places = both_true (eqb (field 2 (places_count w n) f) n) (cond (eqb (field 2 (lengths_count w n) f) n) (ends_as w n f) false) h in
+      let lengths = both_true (eqb (field 2 (lengths_count w n) f) n) (ends_as w n f) places.1 in
       (eqb-true _ n places.0, eqb-true _ n lengths.0, lengths.1)
 
-  pub end-parts : endsAs w n f ≡ true → (field 2 (endCount w n) f ≡ 1) × (isReason (field 2 (endCount w n + 2) f) ≡ true)
-  unfolding endsAs
-  end-parts h = let one = both_true (eqb (field 2 (endCount w n) f) 1) (isReason (field 2 (endCount w n + 2) f)) h in (eqb-true _ 1 one.0, one.1)
+  pub end_parts : ends_as w n f ≡ true → (field 2 (end_count w n) f ≡ 1) × (is_reason (field 2 (end_count w n + 2) f) ≡ true)
+  unfolding ends_as
+  end_parts h = let one = both_true (eqb (field 2 (end_count w n) f) 1) (is_reason (field 2 (end_count w n + 2) f)) h in (eqb-true _ 1 one.0, one.1)
 
 -- a number that is a reason, and not 11, is 12
-pub reason-12 : (k : ℕ) → isReason k ≡ true → (k ≡ 11 → ⊥) → k ≡ 12
-reason-12 k h n = eqb-true k 12 (sym (reason-other k n) ∙ h)
+pub reason_12 : (k : ℕ) → is_reason k ≡ true → (k ≡ 11 → ⊥) → k ≡ 12
+reason_12 k h n = eqb-true k 12 (sym (reason_other k n) ∙ h)
 
 -- a file whose first count is n
 module _ (w n : ℕ) (f : List ℕ) (e : n ≡ field 2 0 f) where
-  pub too_many : 255 < n → isFile w f ≡ false
-  unfolding isFile
+  pub too_many : 255 < n → is_file w f ≡ false
+  unfolding is_file
   too_many h = rw (← e, lt-leb n 255 h)
 
-  pub other-size : n ≤ 255 → (length f ≡ fileSize w n → ⊥) → isFile w f ≡ false
-  unfolding isFile
-  other-size h g = rw (← e, le-leb n 255 h, ne_eqb _ _ g)
+  pub other_size : n ≤ 255 → (length f ≡ file_size w n → ⊥) → is_file w f ≡ false
+  unfolding is_file
+  other_size h g = rw (← e, le-leb n 255 h, ne_eqb _ _ g)
 
-  pub right-size : n ≤ 255 → length f ≡ fileSize w n → isFile w f ≡ countsAgree w n f
-  unfolding isFile
-  right-size h g = rw (← e, le-leb n 255 h, eq-eqb _ _ g)
+  pub right_size : n ≤ 255 → length f ≡ file_size w n → is_file w f ≡ counts_agree w n f
+  unfolding is_file
+  right_size h g = rw (← e, le-leb n 255 h, eq-eqb _ _ g)
 
   -- what holds of a file: few entries, its size, the counts, and a reason to end
-  pub file-parts : isFile w f ≡ true → (n ≤ 255) × (length f ≡ fileSize w n) × (countsAgree w n f ≡ true)
-  unfolding isFile
-  file-parts h =
-      let few = both_true (leb n 255) (cond (eqb (length f) (fileSize w n)) (countsAgree w n f) false) (rw (← e) at h) in
-      let size = both_true (eqb (length f) (fileSize w n)) (countsAgree w n f) few.1 in
-      (leb-true n 255 few.0, eqb-true (length f) (fileSize w n) size.0, size.1)
+  pub file_parts : is_file w f ≡ true → (n ≤ 255) × (length f ≡ file_size w n) × (counts_agree w n f ≡ true)
+  unfolding is_file
+  file_parts h =
+      let few = both_true (leb n 255) (cond (eqb (length f) (file_size w n)) (counts_agree w n f) false) (rw (← e) at h) in
+      let size = both_true (eqb (length f) (file_size w n)) (counts_agree w n f) few.1 in
+      (leb-true n 255 few.0, eqb-true (length f) (file_size w n) size.0, size.1)
 
-  pub file-reason : isFile w f ≡ true → isReason (field 2 (endCount w n + 2) f) ≡ true
-  file-reason h = (end-parts w n f (counts-parts w n f (file-parts h).2).2).1
+  pub file_reason : is_file w f ≡ true → is_reason (field 2 (end_count w n + 2) f) ≡ true
+  file_reason h = (end_parts w n f (counts_parts w n f (file_parts h).2).2).1
 
   -- how many entries a file has
-  pub checked-ok : (k : Kind) → k.width ≡ w → isFile w f ≡ true → checked k f ≡ ok n
-  unfolding checked decoded indexIn
-  checked-ok k u h = rw (u, h, length-entries w (field 2 0 f) f (field 2 0 f) 0, e)
+  pub checked_ok : (k : Kind) → k.width ≡ w → is_file w f ≡ true → checked k f ≡ ok n
+  unfolding checked decoded index_in
+  checked_ok k u h = rw (u, h, length_entries w (field 2 0 f) f (field 2 0 f) 0, e)
 
-pub checked_refused : (k : Kind) (f : List ℕ) → isFile k.width f ≡ false → checked k f ≡ refused 25
+pub checked_refused : (k : Kind) (f : List ℕ) → is_file k.width f ≡ false → checked k f ≡ refused 25
 unfolding checked decoded
 checked_refused k f h = rw h
 
 -- a file has at least ten bytes
-pub too_short : (w : ℕ) (f : List ℕ) → length f < 10 → isFile w f ≡ false
-unfolding isFile
+pub too_short : (w : ℕ) (f : List ℕ) → length f < 10 → is_file w f ≡ false
+unfolding is_file
 too_short w f h =
     let n = field 2 0 f in
-    on-cond (λ b. b ≡ false) (leb n 255) _ false (λ _. rw (ne_eqb (length f) (fileSize w n) (λ g. omega arith))) (λ _. refl)
+    on_cond (λ b. b ≡ false) (leb n 255) _ false (λ _. rw (ne_eqb (length f) (file_size w n) (λ g. omega arith))) (λ _. refl)

@@ -1,6 +1,6 @@
 // The form of an index file: four sections in fixed order, each after its two-byte count (rules 17.5 and 17.6).
 ghost use Rattle.std.specs.Prelude.{◌≡◌, length};
-ghost use Rattle.tlv_index.specs.File.{fileSize, isReason, endsAs, countsAgree, check-index-is};
+ghost use Rattle.tlv_index.specs.File.{file_size, is_reason, ends_as, counts_agree, CheckIndexIs};
 
 use crate::numbers::two_bytes;
 
@@ -13,7 +13,7 @@ pub enum CheckIndex {
 
 // Whether a number is 11 or 12.
 fn is_reason(number: usize) -> bool
-    ensures { result ≡ isReason number }
+    ensures { result ≡ is_reason number }
 {
     if number == 11 {
         return true;
@@ -23,8 +23,8 @@ fn is_reason(number: usize) -> bool
 
 // Whether the last section of a file of n entries has one entry, and its reason is 11 or 12.
 fn ends_as(file: &[u8], n: usize) -> bool
-    requires { fileSize 2 n ≡ length file.now }
-    ensures { result ≡ endsAs 2 n file.now }
+    requires { file_size 2 n ≡ length file.now }
+    ensures { result ≡ ends_as 2 n file.now }
 {
     if two_bytes(file, 6 + 7 * n) == 1 {
         return is_reason(two_bytes(file, 8 + 7 * n));
@@ -34,8 +34,8 @@ fn ends_as(file: &[u8], n: usize) -> bool
 
 // Whether the counts of the second and the third section are n, and the last section is right.
 fn counts_agree(file: &[u8], n: usize) -> bool
-    requires { fileSize 2 n ≡ length file.now }
-    ensures { result ≡ countsAgree 2 n file.now }
+    requires { file_size 2 n ≡ length file.now }
+    ensures { result ≡ counts_agree 2 n file.now }
 {
     if two_bytes(file, 2 + 3 * n) == n {
         if two_bytes(file, 4 + 5 * n) == n {
@@ -47,7 +47,7 @@ fn counts_agree(file: &[u8], n: usize) -> bool
 
 // Checks the form of a file: 25 if it has another one (rule 17.6). Nothing is converted: the file is the index.
 pub fn check_index(file: &[u8]) -> CheckIndex
-    ensures { check-index-is file.now result }
+    ensures { CheckIndexIs file.now result }
 {
     if file.len() < 2 {
         return CheckIndex::Refused(25);

@@ -3,8 +3,8 @@ ghost use Rattle.std.specs.Prelude.{◌≡◌, true, ◌+◌, ◌≤◌, length,
 ghost use Rattle.basis.specs.Reply.{ok, refused};
 ghost use Rattle.tlv.specs.Lookup.{follow};
 ghost use Rattle.tlv.specs.declared.Reading.TheVariants.{Crate};
-ghost use Rattle.tlv_index.specs.File.{field, isFile, stopIn, indexIn};
-ghost use Rattle.tlv_index.specs.Lookup.{firstEntry, soughtReply, usedIn, asReply, get-indexed-is};
+ghost use Rattle.tlv_index.specs.File.{field, is_file, stop_in, index_in};
+ghost use Rattle.tlv_index.specs.Lookup.{first_entry, sought_reply, used_in, as_reply, GetIndexedIs};
 
 use crate::file::{CheckIndex, check_index};
 use crate::numbers::{three_bytes, two_bytes};
@@ -32,8 +32,8 @@ pub enum Sought {
 
 // The end that an index of n entries keeps.
 fn kept_stop(file: &[u8], n: usize) -> Sought
-    requires { (isFile 2 file.now ≡ true) × (n ≡ field 2 0 file.now) }
-    ensures { soughtReply result ≡ refused (stopIn 2 n file.now) }
+    requires { (is_file 2 file.now ≡ true) × (n ≡ field 2 0 file.now) }
+    ensures { sought_reply result ≡ refused (stop_in 2 n file.now) }
 {
     let place = two_bytes(file, 10 + 7 * n);
     if two_bytes(file, 8 + 7 * n) == 11 {
@@ -44,8 +44,8 @@ fn kept_stop(file: &[u8], n: usize) -> Sought
 
 // The first entry with the tag; the end if there is none (rule 17.7).
 fn seek_entry(file: &[u8], n: usize, tag: u32) -> Sought
-    requires { (isFile 2 file.now ≡ true) × (n ≡ field 2 0 file.now) }
-    ensures { soughtReply result ≡ firstEntry tag (indexIn 2 n file.now).entries (indexIn 2 n file.now).stop }
+    requires { (is_file 2 file.now ≡ true) × (n ≡ field 2 0 file.now) }
+    ensures { sought_reply result ≡ first_entry tag (index_in 2 n file.now).entries (index_in 2 n file.now).stop }
 {
     let sought = tag as usize;
     let mut i = 0;
@@ -63,7 +63,7 @@ fn seek_entry(file: &[u8], n: usize, tag: u32) -> Sought
 // The rest of a path, after its first tag, followed from the value at a place of the record.
 fn enter(record: &[u8], at: usize, len: usize, path: &[u32]) -> GetIndexed
     requires { (at + len ≤ length «record».now) × (1 ≤ length path.now) }
-    ensures { asReply result ≡ ok (follow Crate «record».now 1 (record { at = at; len = len }) (drop 1 path.now)) }
+    ensures { as_reply result ≡ ok (follow Crate «record».now 1 (record { at = at; len = len }) (drop 1 path.now)) }
 {
     let end = at + len;
     match get_data_object(Reading::Crate, &record[at..end], &path[1..]) {
@@ -78,7 +78,7 @@ fn enter(record: &[u8], at: usize, len: usize, path: &[u32]) -> GetIndexed
 // The lookup of a path that is not empty, from the entry used on (rules 17.8 and 17.9).
 fn used_in(sought: Sought, record: &[u8], path: &[u32]) -> GetIndexed
     requires { 1 ≤ length path.now }
-    ensures { asReply result ≡ usedIn Crate «record».now (drop 1 path.now) (soughtReply sought) }
+    ensures { as_reply result ≡ used_in Crate «record».now (drop 1 path.now) (sought_reply sought) }
 {
     let size = record.len();
     match sought {
@@ -107,7 +107,7 @@ fn used_in(sought: Sought, record: &[u8], path: &[u32]) -> GetIndexed
 
 // The lookup of a path through the index in a file (rule 17.10). An empty path leads to the whole record.
 pub fn get_indexed(file: &[u8], record: &[u8], path: &[u32]) -> GetIndexed
-    ensures { get-indexed-is file.now «record».now path.now result }
+    ensures { GetIndexedIs file.now «record».now path.now result }
 {
     match check_index(file) {
         CheckIndex::Refused(k) => GetIndexed::Refused(k),

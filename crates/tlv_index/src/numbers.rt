@@ -1,7 +1,7 @@
 // Numbers of two and of three bytes at a place of a file (rule 17.5).
 ghost use Rattle.std.specs.Prelude.{◌≡◌, ◌+◌, ◌≤◌, ◌<◌, length};
 ghost use Rattle.basis.specs.Number.{be};
-ghost use Rattle.basis.specs.Over.{overAt};
+ghost use Rattle.basis.specs.Over.{over_at};
 ghost use Rattle.tlv_index.specs.File.{field};
 
 // A byte as a number.
@@ -30,7 +30,7 @@ pub(crate) fn three_bytes(file: &[u8], at: usize) -> usize
 // Writes a number as two bytes.
 pub(crate) fn put_two_bytes(file: &mut [u8], at: usize, number: usize)
     requires { at + 2 ≤ length file.old }
-    ensures { file.new ≡ overAt at (be 2 number) file.old }
+    ensures { file.new ≡ over_at at (be 2 number) file.old }
 {
     file[at] = (number / 256 % 256) as u8;
     file[at + 1] = (number % 256) as u8;
@@ -39,7 +39,7 @@ pub(crate) fn put_two_bytes(file: &mut [u8], at: usize, number: usize)
 // Writes a number as three bytes.
 pub(crate) fn put_three_bytes(file: &mut [u8], at: usize, number: usize)
     requires { at + 3 ≤ length file.old }
-    ensures { file.new ≡ overAt at (be 3 number) file.old }
+    ensures { file.new ≡ over_at at (be 3 number) file.old }
 {
     file[at] = (number / 256 / 256 % 256) as u8;
     file[at + 1] = (number / 256 % 256) as u8;

@@ -2,7 +2,7 @@
 // Each function returns 0, or the number of a refusal (docs/RULES.md, section 1). It writes its numbers to the front of
 // the slice `out`, unless it refuses; a lookup also if it refuses with 11 or 12 (rule 15.7).
 ghost use Rattle.abi.specs.Answers.{NumbersWritten};
-ghost use Rattle.tlv_index_abi.specs.Told.{IndexBuilt, checkIndexReply, IndexedTold};
+ghost use Rattle.tlv_index_abi.specs.Told.{IndexBuilt, check_index_reply, IndexedTold};
 
 use abi::{refusal_status, tell_lookup, write_numbers};
 use tlv::GetDataObject;
@@ -34,7 +34,7 @@ pub extern "C" fn gorvisclen_build_index(
 // Writes 1 number: how many entries the index in the file has (rule 17.6).
 #[unsafe(no_mangle)]
 pub extern "C" fn gorvisclen_check_index(file: &[u8], out: &mut [u64]) -> u8
-    ensures { NumbersWritten 1 (checkIndexReply file.now) out.old result out.new }
+    ensures { NumbersWritten 1 (check_index_reply file.now) out.old result out.new }
 {
     match check_index(file) {
         CheckIndex::Refused(k) => refusal_status(k, out.len(), 1),

@@ -11,24 +11,24 @@ use lib.ListN.{length, get_or, take, drop, length-take, length-drop}
 use lib.Seq.{get_or-take, take-take, take-nil}
 use borrow.Author.Tests.{le-leb, eqb-true, eqb-false}
 use Rattle.basis.specs.Reply.{ok}
-use Rattle.basis.proofs.Reply.{All, by-reply, all-is, all-cond, all_then}
+use Rattle.basis.proofs.Reply.{All, by_reply, all_is, all_cond, all_then}
 use Rattle.tlv.specs.Tag.{tag_of}
 use Rattle.tlv.specs.Len.{len_of}
 use Rattle.tlv.specs.Padding.{zeros, padding}
-use Rattle.tlv.specs.Object.{Object, objectOf, Item, next_of, size_of}
+use Rattle.tlv.specs.Object.{Object, object_of, Item, next_of, size_of}
 use Rattle.tlv.specs.declared.Reading.{Reading}
 use Rattle.tlv.specs.declared.Reading.TheVariants.{Crate, Standard}
-use Rattle.tlv.proofs.Zeros.{zero-first, other-first, padding-within}
-use Rattle.tlv.proofs.Within.{object-inside}
-use Rattle.tlv.proofs.Tags.{tag_one, tag-two, tag-three, by-tag}
-use Rattle.tlv_laws.proofs.TruthValues.{by-test}
-use Rattle.tlv.proofs.Lengths.{len-in-both-readings, short-length, after-81, after-82, by_length}
+use Rattle.tlv.proofs.Zeros.{zero_first, other_first, padding_within}
+use Rattle.tlv.proofs.Within.{object_inside}
+use Rattle.tlv.proofs.Tags.{tag_one, tag_two, tag_three, by_tag}
+use Rattle.tlv_laws.proofs.TruthValues.{by_test}
+use Rattle.tlv.proofs.Lengths.{len_in_both_readings, short_length, after_81, after_82, by_length}
 
 -- the first n + m bytes without the first n
-drop-front : (n m : ℕ) (l : List ℕ) → drop n (take (n + m) l) ≡ take m (drop n l)
-drop-front zero m l = rw zero-add
-drop-front (suc n) m [] = rw (suc-add, take-nil)
-drop-front (suc n) m (x ∷ l) = rw suc-add (drop-front n m l)
+drop_front : (n m : ℕ) (l : List ℕ) → drop n (take (n + m) l) ≡ take m (drop n l)
+drop_front zero m l = rw zero-add
+drop_front (suc n) m [] = rw (suc-add, take-nil)
+drop_front (suc n) m (x ∷ l) = rw suc-add (drop_front n m l)
 
 -- two lists with the same first k bytes have every shorter front, and the bytes after that front, in common
 module _ (s s' : List ℕ) (k : ℕ) (e : take k s' ≡ take k s) where
@@ -37,7 +37,7 @@ module _ (s s' : List ℕ) (k : ℕ) (e : take k s' ≡ take k s) where
 
   pub front_rest : (n m : ℕ) → n + m ≡ k → take m (drop n s') ≡ take m (drop n s)
   front_rest n m h =
-      sym (drop-front n m s') ∙ rw h (ap (drop n) e) ∙ drop-front n m s
+      sym (drop_front n m s') ∙ rw h (ap (drop n) e) ∙ drop_front n m s
 
   long : (j : ℕ) → j ≤ k → j ≤ length s → j ≤ length s'
   long j h g = omega (arith, ap length e, length-take k s, length-take k s')
@@ -49,48 +49,48 @@ module _ (s s' : List ℕ) where
   abbrev Front : ℕ → Type 0
   Front k = take k s' ≡ take k s
 
-  pub tag-front : (r : Reading) → All (λ t. Front t.size → tag_of r s' ≡ ok t) (tag_of r s)
-  tag-front r =
-      by-tag r s (All (λ t. Front t.size → tag_of r s' ≡ ok t)) (λ _. tt) (λ _. tt)
+  pub tag_front : (r : Reading) → All (λ t. Front t.size → tag_of r s' ≡ ok t) (tag_of r s)
+  tag_front r =
+      by_tag r s (All (λ t. Front t.size → tag_of r s' ≡ ok t)) (λ _. tt) (λ _. tt)
       (λ h n e.
       let m = same s s' 1 e 0 (omega arith) in
       rw (← m) (tag_one r s' (long s s' 1 e 1 (omega arith) h) (λ z. n (omega (arith, m, z)))))
       (λ f h z e.
       let m = same s s' 2 e 0 (omega arith) in
       let n = same s s' 2 e 1 (omega arith) in
-      rw (← m, ← n) (tag-two r s' (omega (arith, m, f)) (long s s' 2 e 2 (omega arith) h) (rw n z)))
+      rw (← m, ← n) (tag_two r s' (omega (arith, m, f)) (long s s' 2 e 2 (omega arith) h) (rw n z)))
       (λ f h z w t e.
       let m = same s s' 3 e 0 (omega arith) in
       let n = same s s' 3 e 1 (omega arith) in
       let k = same s s' 3 e 2 (omega arith) in
-      rw (← m, ← n, ← k) (tag-three r s' (omega (arith, m, f)) (long s s' 3 e 3 (omega arith) h) (rw n z) (rw n w) (rw k t)))
+      rw (← m, ← n, ← k) (tag_three r s' (omega (arith, m, f)) (long s s' 3 e 3 (omega arith) h) (rw n z) (rw n w) (rw k t)))
 
-  len-front : (r : Reading) → All (λ l. Front l.size → len_of r s' ≡ ok l) (len_of r s)
-  len-front r =
+  len_front : (r : Reading) → All (λ l. Front l.size → len_of r s' ≡ ok l) (len_of r s)
+  len_front r =
       by_length s r (All (λ l. Front l.size → len_of r s' ≡ ok l)) tt
       (λ h g e.
       let m = same s s' 1 e 0 (omega arith) in
-      len-in-both-readings r s' ∙ rw (← m) (short-length s' (long s s' 1 e 1 (omega arith) h) (omega (arith, m, g))))
+      len_in_both_readings r s' ∙ rw (← m) (short_length s' (long s s' 1 e 1 (omega arith) h) (omega (arith, m, g))))
       (λ h g e.
       let m = same s s' 2 e in
       let l = long s s' 2 e in
-      len-in-both-readings r s' ∙ rw (← m 1 (omega arith))
-      (after-81 s' (l 1 (omega arith) (omega arith)) (m 0 (omega arith) ∙ g) (l 2 (omega arith) h)))
+      len_in_both_readings r s' ∙ rw (← m 1 (omega arith))
+      (after_81 s' (l 1 (omega arith) (omega arith)) (m 0 (omega arith) ∙ g) (l 2 (omega arith) h)))
       (λ h g e.
       let m = same s s' 3 e in
       let l = long s s' 3 e in
-      len-in-both-readings r s' ∙ rw (← m 1 (omega arith), ← m 2 (omega arith))
-      (after-82 s' (l 1 (omega arith) (omega arith)) (m 0 (omega arith) ∙ g) (l 3 (omega arith) h)))
+      len_in_both_readings r s' ∙ rw (← m 1 (omega arith), ← m 2 (omega arith))
+      (after_82 s' (l 1 (omega arith) (omega arith)) (m 0 (omega arith) ∙ g) (l 3 (omega arith) h)))
 
 -- an object is read in every list that has its tag and length in front and room for its value
-object-all : (r : Reading) (s s' : List ℕ)
-    → All (λ o. take o.at s' ≡ take o.at s → o.at + o.len ≤ length s' → objectOf r s' ≡ ok o) (objectOf r s)
-unfolding objectOf
-object-all r s s' =
-    let P : Object → Type 0 = λ o. take o.at s' ≡ take o.at s → o.at + o.len ≤ length s' → objectOf r s' ≡ ok o in
-    all_then P _ (tag_of r s) _ (tag-front s s' r) (λ t f.
-    all_then P _ (len_of r (drop t.size s)) _ (len-front (drop t.size s) (drop t.size s') r) (λ l g.
-    all-cond P (leb l.number (length s - (t.size + l.size))) _ _
+object_all : (r : Reading) (s s' : List ℕ)
+    → All (λ o. take o.at s' ≡ take o.at s → o.at + o.len ≤ length s' → object_of r s' ≡ ok o) (object_of r s)
+unfolding object_of
+object_all r s s' =
+    let P : Object → Type 0 = λ o. take o.at s' ≡ take o.at s → o.at + o.len ≤ length s' → object_of r s' ≡ ok o in
+    all_then P _ (tag_of r s) _ (tag_front s s' r) (λ t f.
+    all_then P _ (len_of r (drop t.size s)) _ (len_front (drop t.size s) (drop t.size s') r) (λ l g.
+    all_cond P (leb l.number (length s - (t.size + l.size))) _ _
     (λ _ e h.
     let n = t.size in
     let m = l.size in
@@ -98,49 +98,49 @@ object-all r s s' =
     rw (f (front_less s s' (n + m) e n (omega arith)), g (front_rest s s' (n + m) e n m refl), room))
     (λ _. tt)))
 
-object-front : (r : Reading) (s s' : List ℕ) (o : Object) → objectOf r s ≡ ok o → take o.at s' ≡ take o.at s
-    → o.at + o.len ≤ length s' → objectOf r s' ≡ ok o
-object-front r s s' o e =
-    all-is (λ o. take o.at s' ≡ take o.at s → o.at + o.len ≤ length s' → objectOf r s' ≡ ok o) (objectOf r s) o
-    (object-all r s s') e
+object_front : (r : Reading) (s s' : List ℕ) (o : Object) → object_of r s ≡ ok o → take o.at s' ≡ take o.at s
+    → o.at + o.len ≤ length s' → object_of r s' ≡ ok o
+object_front r s s' o e =
+    all_is (λ o. take o.at s' ≡ take o.at s → o.at + o.len ≤ length s' → object_of r s' ≡ ok o) (object_of r s) o
+    (object_all r s s') e
 
 -- padding that ends within the bytes in common is the same
-zeros-front : (s s' : List ℕ) (k : ℕ) → take k s' ≡ take k s → zeros s < k → k ≤ length s → zeros s' ≡ zeros s
-zeros-front s s' zero e h g = absurd (omega arith)
-zeros-front [] s' (suc k) e h g = absurd (omega arith)
-zeros-front (b ∷ s) [] (suc k) e h g = absurd (omega (arith, ap length e))
-zeros-front (b ∷ s) (c ∷ s') (suc k) e h g =
+zeros_front : (s s' : List ℕ) (k : ℕ) → take k s' ≡ take k s → zeros s < k → k ≤ length s → zeros s' ≡ zeros s
+zeros_front s s' zero e h g = absurd (omega arith)
+zeros_front [] s' (suc k) e h g = absurd (omega arith)
+zeros_front (b ∷ s) [] (suc k) e h g = absurd (omega (arith, ap length e))
+zeros_front (b ∷ s) (c ∷ s') (suc k) e h g =
     let first : c ≡ b = ap (λ (l : List ℕ). get_or l 0 0) e in
-    by-test (eqb b 0)
+    by_test (eqb b 0)
     (λ f.
     let z = eqb-true b 0 f in
-    let more = zero-first b s z in
-    let rest = zeros-front s s' k (ap (drop 1) e) (omega (arith, more, h)) (omega (arith, g)) in
-    zero-first c s' (first ∙ z) ∙ ap suc rest ∙ sym more)
-    (λ f. let n = eqb-false b 0 f in other-first c s' (λ z. n (sym first ∙ z)) ∙ sym (other-first b s n))
+    let more = zero_first b s z in
+    let rest = zeros_front s s' k (ap (drop 1) e) (omega (arith, more, h)) (omega (arith, g)) in
+    zero_first c s' (first ∙ z) ∙ ap suc rest ∙ sym more)
+    (λ f. let n = eqb-false b 0 f in other_first c s' (λ z. n (sym first ∙ z)) ∙ sym (other_first b s n))
 
-pub padding-front : (r : Reading) (s s' : List ℕ) (k : ℕ) → take k s' ≡ take k s → padding r s < k → k ≤ length s
+pub padding_front : (r : Reading) (s s' : List ℕ) (k : ℕ) → take k s' ≡ take k s → padding r s < k → k ≤ length s
     → padding r s' ≡ padding r s
 unfolding padding
-padding-front Crate s s' k e h g = refl
-padding-front Standard s s' k e h g = zeros-front s s' k e h g
+padding_front Crate s s' k e h g = refl
+padding_front Standard s s' k e h g = zeros_front s s' k e h g
 
 -- so the next object is read in every list that has its padding, tag and length in front and room for its value
-next-all : (r : Reading) (s s' : List ℕ)
+next_all : (r : Reading) (s s' : List ℕ)
     → All (λ i. take i.at s' ≡ take i.at s → size_of i ≤ length s' → next_of r s' ≡ ok i) (next_of r s)
 unfolding next_of
-next-all r s s' =
+next_all r s s' =
     let n = padding r s in
-    by-reply (objectOf r (drop n s)) (λ o e.
-    let w = object-inside r (drop n s) o e in
+    by_reply (object_of r (drop n s)) (λ o e.
+    let w = object_inside r (drop n s) o e in
     rw e (λ same room.
-    let pad = padding-front r s s' (n + o.at) same (omega (arith, w)) (omega (arith, w, length-drop n s, padding-within r s)) in
-    let read = object-front r (drop n s) (drop n s') o e (front_rest s s' (n + o.at) same n o.at refl)
+    let pad = padding_front r s s' (n + o.at) same (omega (arith, w)) (omega (arith, w, length-drop n s, padding_within r s)) in
+    let read = object_front r (drop n s) (drop n s') o e (front_rest s s' (n + o.at) same n o.at refl)
     (simp length-drop (omega (arith, room))) in
     rw (pad, read)))
     (λ k e. rw e tt)
 
-pub next-front : (r : Reading) (s s' : List ℕ) (i : Item) → next_of r s ≡ ok i → take i.at s' ≡ take i.at s
+pub next_front : (r : Reading) (s s' : List ℕ) (i : Item) → next_of r s ≡ ok i → take i.at s' ≡ take i.at s
     → size_of i ≤ length s' → next_of r s' ≡ ok i
-next-front r s s' i e =
-    all-is (λ i. take i.at s' ≡ take i.at s → size_of i ≤ length s' → next_of r s' ≡ ok i) (next_of r s) i (next-all r s s') e
+next_front r s s' i e =
+    all_is (λ i. take i.at s' ≡ take i.at s → size_of i ≤ length s' → next_of r s' ≡ ok i) (next_of r s) i (next_all r s s') e

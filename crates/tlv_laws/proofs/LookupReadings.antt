@@ -10,35 +10,35 @@ use lib.ListN.{length, take, drop, take-append-drop}
 use lib.Seq.{drop-drop}
 use borrow.Author.Tests.{eqb-false}
 use Rattle.basis.specs.Reply.{ok, refused, then}
-use Rattle.basis.proofs.Reply.{by-reply}
+use Rattle.basis.proofs.Reply.{by_reply}
 use Rattle.tlv.specs.Object.{Item, Stop, next_of, size_of}
 use Rattle.tlv.specs.Walk.{walk}
-use Rattle.tlv.specs.Lookup.{Span, part, wholeRecord, seek, Found, foundBy, span_of, searched, follow, lookup}
+use Rattle.tlv.specs.Lookup.{Span, part, whole_record, seek, Found, found_by, span_of, searched, follow, lookup}
 use Rattle.tlv.specs.declared.Reading.{Reading}
 use Rattle.tlv.specs.declared.Reading.TheVariants.{Crate, Standard}
-use Rattle.tlv.proofs.Within.{crate-item, crate-stop}
-use Rattle.tlv.proofs.Walk.{walk_refused, walk-met, by-objects, seek-refused, seek_is}
-use Rattle.tlv_laws.specs.Readings.{objectDiffers, meetsOf, meetsAt, meetsFrom, meets, FirstMet, fromThere}
+use Rattle.tlv.proofs.Within.{crate_item, crate_stop}
+use Rattle.tlv.proofs.Walk.{walk_refused, walk_met, by_objects, seek_refused, seek_is}
+use Rattle.tlv_laws.specs.Readings.{object_differs, meets_of, meets_at, meets_from, meets, FirstMet, from_there}
 use Rattle.tlv_laws.specs.Plain.{plain}
-use Rattle.tlv_laws.specs.Value.{ofValue}
-use Rattle.tlv_laws.proofs.TruthValues.{by-test, same_cond, neither}
-use Rattle.tlv_laws.proofs.AfterMatch.{follow-append}
-use Rattle.tlv_laws.proofs.Boundary.{walked_at, walk-on, walked_none, walked-append, walked_next}
-use Rattle.tlv_laws.proofs.ObjectReadings.{objects-alike, differing-objects}
+use Rattle.tlv_laws.specs.Value.{of_value}
+use Rattle.tlv_laws.proofs.TruthValues.{by_test, same_cond, neither}
+use Rattle.tlv_laws.proofs.AfterMatch.{follow_append}
+use Rattle.tlv_laws.proofs.Boundary.{walked_at, walk_on, walked_none, walked_append, walked_next}
+use Rattle.tlv_laws.proofs.ObjectReadings.{objects_alike, differing_objects}
 
 -- whether such bytes are met at one level, walked from place a of the bytes l on: where no object is read, and where
 -- one is
 abbrev Met : ℕ → List ℕ → ℕ → List ℕ → Bool
-Met t l a s = meetsOf l t (walk Crate a s).items (walk Crate a s).stop
+Met t l a s = meets_of l t (walk Crate a s).items (walk Crate a s).stop
 
-met-stop : (t : ℕ) (l : List ℕ) (a : ℕ) (s : List ℕ) (k : Stop) → next_of Crate s ≡ refused k → drop a l ≡ s → Met t l a s ≡ objectDiffers s
-unfolding meetsOf
-met-stop t l a s k e d = rw (walk_refused Crate a s k e, (crate-stop s k e).0, add-zero, d)
+met_stop : (t : ℕ) (l : List ℕ) (a : ℕ) (s : List ℕ) (k : Stop) → next_of Crate s ≡ refused k → drop a l ≡ s → Met t l a s ≡ object_differs s
+unfolding meets_of
+met_stop t l a s k e d = rw (walk_refused Crate a s k e, (crate_stop s k e).0, add-zero, d)
 
-met-item : (t : ℕ) (l : List ℕ) (a : ℕ) (s : List ℕ) (o : Item) → next_of Crate s ≡ ok o → drop a l ≡ s
-    → Met t l a s ≡ cond (objectDiffers s) true (cond (eqb o.tag t) false (Met t l (a + size_of o) (drop (size_of o) s)))
-unfolding meetsOf
-met-item t l a s o e d = rw (walk-met Crate a s o e, (crate-item s o e).0, add-zero, d)
+met_item : (t : ℕ) (l : List ℕ) (a : ℕ) (s : List ℕ) (o : Item) → next_of Crate s ≡ ok o → drop a l ≡ s
+    → Met t l a s ≡ cond (object_differs s) true (cond (eqb o.tag t) false (Met t l (a + size_of o) (drop (size_of o) s)))
+unfolding meets_of
+met_item t l a s o e d = rw (walk_met Crate a s o e, (crate_item s o e).0, add-zero, d)
 
 module _ (t : ℕ) (l : List ℕ) where
   onward : (a : ℕ) (s : List ℕ) (k : ℕ) → drop a l ≡ s → drop (a + k) l ≡ drop k s
@@ -48,15 +48,15 @@ module _ (t : ℕ) (l : List ℕ) where
   abbrev Alike : ℕ → List ℕ → Type 0
   Alike a s = (b : ℕ) → drop a l ≡ s → Met t l a s ≡ false → seek Crate t b s ≡ seek Standard t b s
 
-  level-alike : (a : ℕ) (s : List ℕ) → Alike a s
-  level-alike =
-      by-objects Crate Alike
+  level_alike : (a : ℕ) (s : List ℕ) → Alike a s
+  level_alike =
+      by_objects Crate Alike
       (λ a s k e b d m.
-      let same = objects-alike s (sym (met-stop t l a s k e d) ∙ m) in
-      seek-refused Crate t b s k e ∙ sym (seek-refused Standard t b s k (sym same ∙ e)))
+      let same = objects_alike s (sym (met_stop t l a s k e d) ∙ m) in
+      seek_refused Crate t b s k e ∙ sym (seek_refused Standard t b s k (sym same ∙ e)))
       (λ a s o e w deeper b d m.
-      let n = neither (objectDiffers s) _ (sym (met-item t l a s o e d) ∙ m) in
-      let same = objects-alike s n.0 in
+      let n = neither (object_differs s) _ (sym (met_item t l a s o e d) ∙ m) in
+      let same = objects_alike s n.0 in
       rw (seek_is Crate t b s o e, seek_is Standard t b s o (sym same ∙ e))
       (same_cond (eqb o.tag t) _ _ _ _ (λ _. refl) (λ h.
       deeper (b + size_of o) (onward a s (size_of o) d) (rw h at n.1))))
@@ -64,7 +64,7 @@ module _ (t : ℕ) (l : List ℕ) where
   -- none are met if none stand after whole objects without the tag (bytes in which the tag is refused with 11)
   abbrev None : ℕ → List ℕ → Type 0
   None a s =
-      drop a l ≡ s → ((x y : List ℕ) → s ≡ x ++ y → plain (lookup Crate x (t ∷ [])) ≡ refused 11 → objectDiffers y ≡ false) → Met t l a s ≡ false
+      drop a l ≡ s → ((x y : List ℕ) → s ≡ x ++ y → plain (lookup Crate x (t ∷ [])) ≡ refused 11 → object_differs y ≡ false) → Met t l a s ≡ false
 
   -- if some are met: the bytes before the first of them are whole objects without the tag, in both readings
   record Divided (s : List ℕ) : Type 0 where
@@ -72,88 +72,88 @@ module _ (t : ℕ) (l : List ℕ) where
     y : List ℕ
     parts : s ≡ x ++ y
     walked : (r : Reading) → plain (lookup r x (t ∷ [])) ≡ refused 11
-    differs : objectDiffers y ≡ true
+    differs : object_differs y ≡ true
 
-  at_once : (s : List ℕ) → objectDiffers s ≡ true → Divided s
+  at_once : (s : List ℕ) → object_differs s ≡ true → Divided s
   at_once s d = record { x = []; y = s; parts = refl; walked = λ r. walked_none r t; differs = d }
 
-  in-each : (s : List ℕ) (o : Item) → next_of Crate s ≡ ok o → objectDiffers s ≡ false → (r : Reading) → next_of r s ≡ ok o
-  in-each s o e n Crate = e
-  in-each s o e n Standard = sym (objects-alike s n) ∙ e
+  in_each : (s : List ℕ) (o : Item) → next_of Crate s ≡ ok o → object_differs s ≡ false → (r : Reading) → next_of r s ≡ ok o
+  in_each s o e n Crate = e
+  in_each s o e n Standard = sym (objects_alike s n) ∙ e
 
-  level-divided : (a : ℕ) (s : List ℕ) → drop a l ≡ s → Met t l a s ≡ true → Divided s
-  level-divided =
-      by-objects Crate (λ a s. drop a l ≡ s → Met t l a s ≡ true → Divided s)
-      (λ a s k e d m. at_once s (sym (met-stop t l a s k e d) ∙ m))
+  level_divided : (a : ℕ) (s : List ℕ) → drop a l ≡ s → Met t l a s ≡ true → Divided s
+  level_divided =
+      by_objects Crate (λ a s. drop a l ≡ s → Met t l a s ≡ true → Divided s)
+      (λ a s k e d m. at_once s (sym (met_stop t l a s k e d) ∙ m))
       (λ a s o e w deeper d m.
       let k = size_of o in
-      let met = sym (met-item t l a s o e d) ∙ m in
-      by-test (objectDiffers s) (at_once s) (λ n.
-      by-test (eqb o.tag t) (λ g. absurd (false≢true (rw (n, g) at met))) (λ g.
+      let met = sym (met_item t l a s o e d) ∙ m in
+      by_test (object_differs s) (at_once s) (λ n.
+      by_test (eqb o.tag t) (λ g. absurd (false≢true (rw (n, g) at met))) (λ g.
       let v = deeper (onward a s k d) (rw (n, g) at met) in
       record {
         x = take k s ++ v.x;
         y = v.y;
         parts = sym (take-append-drop k s) ∙ ap (λ (u : List ℕ). take k s ++ u) v.parts ∙ sym (append_assoc (take k s) v.x v.y);
-        walked = λ r. walked-append r t (take k s) v.x
-            (walked_next r t [] s o (walked_none r t) (in-each s o e n r) (eqb-false o.tag t g)) (v.walked r);
+        walked = λ r. walked_append r t (take k s) v.x
+            (walked_next r t [] s o (walked_none r t) (in_each s o e n r) (eqb-false o.tag t g)) (v.walked r);
         differs = v.differs;
       })))
 
-level-none : (t : ℕ) (l : List ℕ) (a : ℕ) (s : List ℕ) → None t l a s
-level-none t l =
-    by-objects Crate (None t l)
-    (λ a s k e d h. met-stop t l a s k e d ∙ h [] s refl (walked_none Crate t))
+level_none : (t : ℕ) (l : List ℕ) (a : ℕ) (s : List ℕ) → None t l a s
+level_none t l =
+    by_objects Crate (None t l)
+    (λ a s k e d h. met_stop t l a s k e d ∙ h [] s refl (walked_none Crate t))
     (λ a s o e w deeper d h.
     let k = size_of o in
-    rw (met-item t l a s o e d, h [] s refl (walked_none Crate t))
-    (by-test (eqb o.tag t) (λ g. rw g) (λ g.
+    rw (met_item t l a s o e d, h [] s refl (walked_none Crate t))
+    (by_test (eqb o.tag t) (λ g. rw g) (λ g.
     rw g (deeper (onward t l a s k d) (λ x y q z.
     h (take k s ++ x) y (sym (take-append-drop k s) ∙ rw (q, append_assoc))
-    (walked-append Crate t (take k s) x (walked_next Crate t [] s o (walked_none Crate t) e (eqb-false o.tag t g)) z))))))
+    (walked_append Crate t (take k s) x (walked_next Crate t [] s o (walked_none Crate t) e (eqb-false o.tag t g)) z))))))
 
-follow-alike : (s : List ℕ) (m : ℕ) (p : Span) (path : List ℕ) → meetsFrom s p path ≡ false
+follow_alike : (s : List ℕ) (m : ℕ) (p : Span) (path : List ℕ) → meets_from s p path ≡ false
     → follow Crate s m p path ≡ follow Standard s m p path
-unfolding meetsFrom meetsAt follow
-follow-alike s m p [] e = refl
-follow-alike s m p (t ∷ path) e =
+unfolding meets_from meets_at follow
+follow_alike s m p [] e = refl
+follow_alike s m p (t ∷ path) e =
     let x = seek Crate t p.at (part s p) in
-    let n = neither (meetsAt t (part s p)) (ofValue x false (λ q. meetsFrom s q path)) e in
-    rw (← level-alike t (part s p) 0 (part s p) p.at refl n.0)
-    (by-reply x (λ q h. rw h (follow-alike s (m + 1) q path (rw h at n.1))) (λ k h. rw h))
+    let n = neither (meets_at t (part s p)) (of_value x false (λ q. meets_from s q path)) e in
+    rw (← level_alike t (part s p) 0 (part s p) p.at refl n.0)
+    (by_reply x (λ q h. rw h (follow_alike s (m + 1) q path (rw h at n.1))) (λ k h. rw h))
 
-pub lookups-alike : (s path : List ℕ) → meets s path ≡ false → lookup Crate s path ≡ lookup Standard s path
-lookups-alike s path = follow-alike s 0 (wholeRecord s) path
+pub lookups_alike : (s path : List ℕ) → meets s path ≡ false → lookup Crate s path ≡ lookup Standard s path
+lookups_alike s path = follow_alike s 0 (whole_record s) path
 
-path-none : (s : List ℕ) (n : ℕ) (p : Span) (path : List ℕ)
+path_none : (s : List ℕ) (n : ℕ) (p : Span) (path : List ℕ)
     → ((front rest : List ℕ) (t : ℕ) (q : Found) (x y : List ℕ) → path ≡ front ++ (t ∷ rest) → follow Crate s n p front ≡ ok q
-    → part s (span_of q) ≡ x ++ y → plain (lookup Crate x (t ∷ [])) ≡ refused 11 → objectDiffers y ≡ false)
-    → meetsFrom s p path ≡ false
-unfolding meetsFrom meetsAt follow
-path-none s n p [] h = refl
-path-none s n p (t ∷ path) h =
-    rw (level-none t (part s p) 0 (part s p) refl (λ x y. h [] path t (foundBy n p) x y refl refl))
-    (by-reply (seek Crate t p.at (part s p)) (λ q e.
-    rw e (path-none s (n + 1) q path (λ front rest u m x y parts entered.
+    → part s (span_of q) ≡ x ++ y → plain (lookup Crate x (t ∷ [])) ≡ refused 11 → object_differs y ≡ false)
+    → meets_from s p path ≡ false
+unfolding meets_from meets_at follow
+path_none s n p [] h = refl
+path_none s n p (t ∷ path) h =
+    rw (level_none t (part s p) 0 (part s p) refl (λ x y. h [] path t (found_by n p) x y refl refl))
+    (by_reply (seek Crate t p.at (part s p)) (λ q e.
+    rw e (path_none s (n + 1) q path (λ front rest u m x y parts entered.
     h (t ∷ front) rest u m x y (ap (λ (l : List ℕ). t ∷ l) parts) (rw e entered))))
     (λ k e. rw e))
 
 -- so none are met if none stand at a place to which the lookup comes, at any level of the path
-pub meets-none : (s path : List ℕ)
+pub meets_none : (s path : List ℕ)
     → ((front rest : List ℕ) (t : ℕ) (p : Found) (x y : List ℕ) → path ≡ front ++ (t ∷ rest) → lookup Crate s front ≡ ok p
-    → part s (span_of p) ≡ x ++ y → plain (lookup Crate x (t ∷ [])) ≡ refused 11 → objectDiffers y ≡ false)
+    → part s (span_of p) ≡ x ++ y → plain (lookup Crate x (t ∷ [])) ≡ refused 11 → object_differs y ≡ false)
     → meets s path ≡ false
-meets-none s path = path-none s 0 (wholeRecord s) path
+meets_none s path = path_none s 0 (whole_record s) path
 
 -- a lookup goes on after whole objects without the tag, in either reading
-lookup-on : (r : Reading) (s front rest : List ℕ) (t : ℕ) (p : Found) (x y : List ℕ) → lookup r s front ≡ ok p
+lookup_on : (r : Reading) (s front rest : List ℕ) (t : ℕ) (p : Found) (x y : List ℕ) → lookup r s front ≡ ok p
     → part s (span_of p) ≡ x ++ y → plain (lookup r x (t ∷ [])) ≡ refused 11
     → lookup r s (front ++ (t ∷ rest))
     ≡ then (searched p.matched (seek r t (p.at + length x) y)) (λ q. follow r s (p.matched + 1) q rest)
 unfolding follow
-lookup-on r s front rest t p x y led parts walked =
-    follow-append r s 0 (wholeRecord s) front (t ∷ rest)
-    ∙ rw (led, parts, walk-on r t p.at x y (walked_at r t x walked p.at))
+lookup_on r s front rest t p x y led parts walked =
+    follow_append r s 0 (whole_record s) front (t ∷ rest)
+    ∙ rw (led, parts, walk_on r t p.at x y (walked_at r t x walked p.at))
 
 -- if some are met, both lookups come alike to the first of them
 led_on : (s : List ℕ) (n : ℕ) (p q : Span) (t : ℕ) (front : List ℕ) (v : Found) → seek Crate t p.at (part s p) ≡ ok q
@@ -162,22 +162,22 @@ unfolding follow
 led_on s n p q t front v e f Crate led = rw e led
 led_on s n p q t front v e f Standard led = rw f led
 
-path-met : (s : List ℕ) (n : ℕ) (p : Span) (path : List ℕ) → meetsFrom s p path ≡ true → FirstMet s n p path
-unfolding meetsFrom meetsAt follow
-path-met s n p [] e = absurd (false≢true e)
-path-met s n p (t ∷ path) e =
+path_met : (s : List ℕ) (n : ℕ) (p : Span) (path : List ℕ) → meets_from s p path ≡ true → FirstMet s n p path
+unfolding meets_from meets_at follow
+path_met s n p [] e = absurd (false≢true e)
+path_met s n p (t ∷ path) e =
     let b = part s p in
-    by-test (meetsAt t b)
+    by_test (meets_at t b)
     (λ m.
-    let v = level-divided t b 0 b refl m in
+    let v = level_divided t b 0 b refl m in
     record {
       front = [];
       t = t;
       rest = path;
-      q = foundBy n p;
+      q = found_by n p;
       x = v.x;
       y = v.y;
-      path-is = refl;
+      path_is = refl;
       led = λ r. refl;
       level = v.parts;
       walked = v.walked;
@@ -185,9 +185,9 @@ path-met s n p (t ∷ path) e =
     })
     (λ m.
     let deeper = rw m at e in
-    by-reply (seek Crate t p.at b) (λ q f.
-    let same = level-alike t b 0 b p.at refl m in
-    let v = path-met s (n + 1) q path (rw f at deeper) in
+    by_reply (seek Crate t p.at b) (λ q f.
+    let same = level_alike t b 0 b p.at refl m in
+    let v = path_met s (n + 1) q path (rw f at deeper) in
     record {
       front = t ∷ v.front;
       t = v.t;
@@ -195,7 +195,7 @@ path-met s n p (t ∷ path) e =
       q = v.q;
       x = v.x;
       y = v.y;
-      path-is = ap (λ (l : List ℕ). t ∷ l) v.path-is;
+      path_is = ap (λ (l : List ℕ). t ∷ l) v.path_is;
       led = λ r. led_on s n p q t v.front v.q f (sym same ∙ f) r (v.led r);
       level = v.level;
       walked = v.walked;
@@ -203,15 +203,15 @@ path-met s n p (t ∷ path) e =
     })
     (λ k f. absurd (false≢true (rw f at deeper))))
 
-pub lookups-met : (s path : List ℕ) → meets s path ≡ true → FirstMet s 0 (wholeRecord s) path
-lookups-met s path = path-met s 0 (wholeRecord s) path
+pub lookups_met : (s path : List ℕ) → meets s path ≡ true → FirstMet s 0 (whole_record s) path
+lookups_met s path = path_met s 0 (whole_record s) path
 
 -- each lookup is then what its reading makes of the rest: so the two lookups are equal exactly if these replies are
-pub met-lookup : (r : Reading) (s path : List ℕ) (m : FirstMet s 0 (wholeRecord s) path) → lookup r s path ≡ fromThere r s path m
-met-lookup r s path m =
-    ap (λ (p : List ℕ). lookup r s p) m.path-is
-    ∙ lookup-on r s m.front m.rest m.t m.q m.x m.y (m.led r) m.level (m.walked r)
+pub met_lookup : (r : Reading) (s path : List ℕ) (m : FirstMet s 0 (whole_record s) path) → lookup r s path ≡ from_there r s path m
+met_lookup r s path m =
+    ap (λ (p : List ℕ). lookup r s p) m.path_is
+    ∙ lookup_on r s m.front m.rest m.t m.q m.x m.y (m.led r) m.level (m.walked r)
 
 -- and the next object there is not the same in both readings
-pub met-apart : (s path : List ℕ) (m : FirstMet s 0 (wholeRecord s) path) → next_of Crate m.y ≡ next_of Standard m.y → ⊥
-met-apart s path m = differing-objects m.y m.differs
+pub met_apart : (s path : List ℕ) (m : FirstMet s 0 (whole_record s) path) → next_of Crate m.y ≡ next_of Standard m.y → ⊥
+met_apart s path m = differing_objects m.y m.differs

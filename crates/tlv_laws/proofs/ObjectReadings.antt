@@ -11,51 +11,51 @@ use lib.ListN.{length, get_or, drop}
 use borrow.Author.Tests.{ltb-false, leb-true, eqb-true}
 use Rattle.basis.specs.Differ.{Differ}
 use Rattle.basis.specs.Reply.{Told, ok, refused}
-use Rattle.basis.proofs.Reply.{All, by-reply, all-is, apart, refused_not_ok}
+use Rattle.basis.proofs.Reply.{All, by_reply, all_is, apart, refused_not_ok}
 use Rattle.tlv.specs.Padding.{zeros, padding}
 use Rattle.tlv.specs.Tag.{Tag, tag_of}
-use Rattle.tlv.specs.Object.{Object, objectOf, Item, Stop, placed, next_of, moved, objectAt}
+use Rattle.tlv.specs.Object.{Object, object_of, Item, Stop, placed, next_of, moved, object_at}
 use Rattle.tlv.specs.declared.Reading.{Reading}
 use Rattle.tlv.specs.declared.Reading.TheVariants.{Crate, Standard}
-use Rattle.tlv.proofs.Zeros.{crate-padding, standard-padding}
-use Rattle.tlv.proofs.Tags.{by-tag}
-use Rattle.tlv.proofs.Within.{next-after}
-use Rattle.tlv_laws.specs.Readings.{tagDiffers, isRead, objectDiffers}
-use Rattle.tlv_laws.proofs.TruthValues.{by-test, neither, not-true-false}
+use Rattle.tlv.proofs.Zeros.{crate_padding, standard_padding}
+use Rattle.tlv.proofs.Tags.{by_tag}
+use Rattle.tlv.proofs.Within.{next_after}
+use Rattle.tlv_laws.specs.Readings.{tag_differs, is_read, object_differs}
+use Rattle.tlv_laws.proofs.TruthValues.{by_test, neither, not_true_false}
 use Rattle.tlv_laws.proofs.Padded.{place_of, next_place}
-use Rattle.tlv_laws.proofs.Boundary.{front-refused, TagOf, object-tag}
-use Rattle.tlv_laws.proofs.Readings.{tags-alike, differing-tags, no-padding, starts-zero}
+use Rattle.tlv_laws.proofs.Boundary.{front_refused, TagOf, object_tag}
+use Rattle.tlv_laws.proofs.Readings.{tags_alike, differing_tags, no_padding, starts_zero_lem}
 
 -- a tag on which they differ has at least two bytes
-differs-long : (s : List ℕ) → tagDiffers s ≡ true → (2 ≤ length s) × (get_or s 0 0 % 32 ≡ 31)
-unfolding tagDiffers
-differs-long s e =
-    by-test (ltb (length s) 2) (λ h. absurd (false≢true (rw h at e))) (λ h.
-    by-test (eqb (get_or s 0 0 % 32) 31)
+differs_long : (s : List ℕ) → tag_differs s ≡ true → (2 ≤ length s) × (get_or s 0 0 % 32 ≡ 31)
+unfolding tag_differs
+differs_long s e =
+    by_test (ltb (length s) 2) (λ h. absurd (false≢true (rw h at e))) (λ h.
+    by_test (eqb (get_or s 0 0 % 32) 31)
     (λ f. (ltb-false (length s) 2 h, eqb-true (get_or s 0 0 % 32) 31 f))
     (λ f. absurd (false≢true (rw (h, f) at e))))
 
 -- if both readings read a tag there, their numbers differ
-module _ (s : List ℕ) (d : tagDiffers s ≡ true) where
+module _ (s : List ℕ) (d : tag_differs s ≡ true) where
   abbrev TwoOrThree : Tag → Type 0
   TwoOrThree t =
       ((t.size ≡ 2) × (t.number ≡ get_or s 0 0 * 256 + get_or s 1 0))
       ⊎ ((t.size ≡ 3) × (t.number ≡ (get_or s 0 0 * 256 + get_or s 1 0) * 256 + get_or s 2 0))
 
-  two-or-three : (r : Reading) → All TwoOrThree (tag_of r s)
-  two-or-three r =
-      by-tag r s (All TwoOrThree) (λ _. tt) (λ _. tt) (λ _ n. absurd (n (differs-long s d).1)) (λ _ _ _. inl (refl, refl))
+  two_or_three : (r : Reading) → All TwoOrThree (tag_of r s)
+  two_or_three r =
+      by_tag r s (All TwoOrThree) (λ _. tt) (λ _. tt) (λ _ n. absurd (n (differs_long s d).1)) (λ _ _ _. inl (refl, refl))
       (λ _ _ _ _ _. inr (refl, refl))
 
   same_tag : (t u : Tag) → tag_of Crate s ≡ ok t → tag_of Standard s ≡ ok u → t.number ≡ u.number → t.size ≡ u.size → ⊥
   same_tag t u e f number size =
-      differing-tags s d (e ∙ ap ok (λ j. record { number = number j; size = size j }) ∙ sym f)
+      differing_tags s d (e ∙ ap ok (λ j. record { number = number j; size = size j }) ∙ sym f)
 
-  numbers-differ : (t u : Tag) → tag_of Crate s ≡ ok t → tag_of Standard s ≡ ok u → t.number ≡ u.number → ⊥
-  numbers-differ t u e f number =
-      let long = (differs-long s d).1 in
-      let x = all-is TwoOrThree (tag_of Crate s) t (two-or-three Crate) e in
-      let y = all-is TwoOrThree (tag_of Standard s) u (two-or-three Standard) f in
+  numbers_differ : (t u : Tag) → tag_of Crate s ≡ ok t → tag_of Standard s ≡ ok u → t.number ≡ u.number → ⊥
+  numbers_differ t u e f number =
+      let long = (differs_long s d).1 in
+      let x = all_is TwoOrThree (tag_of Crate s) t (two_or_three Crate) e in
+      let y = all_is TwoOrThree (tag_of Standard s) u (two_or_three Standard) f in
       elim x [
         | inl p ↦
             elim y [
@@ -70,83 +70,83 @@ module _ (s : List ℕ) (d : tagDiffers s ≡ true) where
       ]
 
   -- so the readings do not read one object there
-  objects-apart : (o q : Object) → objectOf Crate s ≡ ok o → objectOf Standard s ≡ ok q → o.tag ≡ q.tag → ⊥
+  objects_apart : (o q : Object) → object_of Crate s ≡ ok o → object_of Standard s ≡ ok q → o.tag ≡ q.tag → ⊥
   unfolding TagOf
-  objects-apart o q e f same =
-      let t = all-is (TagOf Crate s) (objectOf Crate s) o (object-tag Crate s) e in
-      let u = all-is (TagOf Standard s) (objectOf Standard s) q (object-tag Standard s) f in
-      numbers-differ t.0 u.0 t.1.0 u.1.0 (t.1.1 ∙ same ∙ sym u.1.1)
+  objects_apart o q e f same =
+      let t = all_is (TagOf Crate s) (object_of Crate s) o (object_tag Crate s) e in
+      let u = all_is (TagOf Standard s) (object_of Standard s) q (object_tag Standard s) f in
+      numbers_differ t.0 u.0 t.1.0 u.1.0 (t.1.1 ∙ same ∙ sym u.1.1)
 
   -- the tag of a reply
-  abbrev tagIn : Told Stop Item → ℕ
-  tagIn (ok i) = i.tag
-  tagIn (refused e) = 0
+  abbrev tag_in : Told Stop Item → ℕ
+  tag_in (ok i) = i.tag
+  tag_in (refused e) = 0
 
-  read-apart : cond (isRead Crate s) true (isRead Standard s) ≡ true → placed 0 (objectOf Crate s) ≡ placed 0 (objectOf Standard s) → ⊥
-  read-apart h e =
-      by-reply (objectOf Crate s)
-      (λ o f. by-reply (objectOf Standard s)
-      (λ q g. objects-apart o q f g (ap tagIn (sym (ap (placed 0) f) ∙ e ∙ ap (placed 0) g)))
+  read_apart : cond (is_read Crate s) true (is_read Standard s) ≡ true → placed 0 (object_of Crate s) ≡ placed 0 (object_of Standard s) → ⊥
+  read_apart h e =
+      by_reply (object_of Crate s)
+      (λ o f. by_reply (object_of Standard s)
+      (λ q g. objects_apart o q f g (ap tag_in (sym (ap (placed 0) f) ∙ e ∙ ap (placed 0) g)))
       (λ k g. refused_not_ok _ _ (sym (ap (placed 0) g) ∙ sym e ∙ ap (placed 0) f)))
-      (λ k f. by-reply (objectOf Standard s)
+      (λ k f. by_reply (object_of Standard s)
       (λ q g. refused_not_ok _ _ (sym (ap (placed 0) f) ∙ e ∙ ap (placed 0) g))
       (λ j g. false≢true (rw (f, g) at h)))
 
 -- bytes that start with no object, and with some byte, are refused with 12
-unread : (r : Reading) (s : List ℕ) → 1 ≤ length s → isRead r s ≡ false → objectOf r s ≡ refused 12
+unread : (r : Reading) (s : List ℕ) → 1 ≤ length s → is_read r s ≡ false → object_of r s ≡ refused 12
 unread r s h e =
-    by-reply (objectOf r s) (λ o f. absurd (true≢false (rw f at e))) (λ k f.
-    elim (front-refused r s k f) [ inl g ↦ absurd (omega (arith, h, g.1)) | inr g ↦ f ∙ ap refused g.0 ])
+    by_reply (object_of r s) (λ o f. absurd (true≢false (rw f at e))) (λ k f.
+    elim (front_refused r s k f) [ inl g ↦ absurd (omega (arith, h, g.1)) | inr g ↦ f ∙ ap refused g.0 ])
 
-front-alike : (s : List ℕ) → tagDiffers s ≡ false → objectOf Crate s ≡ objectOf Standard s
-unfolding objectOf
-front-alike s e = rw (tags-alike s e)
+front_alike : (s : List ℕ) → tag_differs s ≡ false → object_of Crate s ≡ object_of Standard s
+unfolding object_of
+front_alike s e = rw (tags_alike s e)
 
 -- the next object where no padding stands
-unpadded : (r : Reading) (s : List ℕ) → padding r s ≡ 0 → next_of r s ≡ placed 0 (objectOf r s)
-unpadded r s e = next-after r s 0 (sym e)
+unpadded : (r : Reading) (s : List ℕ) → padding r s ≡ 0 → next_of r s ≡ placed 0 (object_of r s)
+unpadded r s e = next_after r s 0 (sym e)
 
-pub objects-alike : (s : List ℕ) → objectDiffers s ≡ false → next_of Crate s ≡ next_of Standard s
-unfolding objectDiffers
-objects-alike s d =
-    let n = neither (leb 1 (zeros s)) _ (rw (starts-zero s) at d) in
-    let same : objectOf Crate s ≡ objectOf Standard s =
-    by-test (tagDiffers s)
+pub objects_alike : (s : List ℕ) → object_differs s ≡ false → next_of Crate s ≡ next_of Standard s
+unfolding object_differs
+objects_alike s d =
+    let n = neither (leb 1 (zeros s)) _ (rw (starts_zero_lem s) at d) in
+    let same : object_of Crate s ≡ object_of Standard s =
+    by_test (tag_differs s)
     (λ g.
-    let some : 1 ≤ length s = omega (arith, differs-long s g) in
-    let m = neither (isRead Crate s) (isRead Standard s) (rw g at n.1) in
+    let some : 1 ≤ length s = omega (arith, differs_long s g) in
+    let m = neither (is_read Crate s) (is_read Standard s) (rw g at n.1) in
     unread Crate s some m.0 ∙ sym (unread Standard s some m.1))
-    (front-alike s) in
-    unpadded Crate s (crate-padding s) ∙ ap (placed 0) same ∙ sym (unpadded Standard s (no-padding s n.0))
+    (front_alike s) in
+    unpadded Crate s (crate_padding s) ∙ ap (placed 0) same ∙ sym (unpadded Standard s (no_padding s n.0))
 
-pub differing-objects : (s : List ℕ) → objectDiffers s ≡ true → next_of Crate s ≡ next_of Standard s → ⊥
-unfolding objectDiffers
-differing-objects s d e =
-    by-test (leb 1 (zeros s))
-    (λ z. omega (arith, leb-true 1 (zeros s) z, standard-padding s, next_place Standard s, next_place Crate s, crate-padding s, ap place_of e))
+pub differing_objects : (s : List ℕ) → object_differs s ≡ true → next_of Crate s ≡ next_of Standard s → ⊥
+unfolding object_differs
+differing_objects s d e =
+    by_test (leb 1 (zeros s))
+    (λ z. omega (arith, leb-true 1 (zeros s) z, standard_padding s, next_place Standard s, next_place Crate s, crate_padding s, ap place_of e))
     (λ z.
-    let front = sym (unpadded Crate s (crate-padding s)) ∙ e ∙ unpadded Standard s (no-padding s z) in
-    by-test (tagDiffers s) (λ g. read-apart s g (rw (starts-zero s, z, g) at d) front) (λ g. false≢true (rw (starts-zero s, z, g) at d)))
+    let front = sym (unpadded Crate s (crate_padding s)) ∙ e ∙ unpadded Standard s (no_padding s z) in
+    by_test (tag_differs s) (λ g. read_apart s g (rw (starts_zero_lem s, z, g) at d) front) (λ g. false≢true (rw (starts_zero_lem s, z, g) at d)))
 
-pub objects-differ : (s : List ℕ) → Differ (objectDiffers s ≡ true) (next_of Crate s) (next_of Standard s)
-objects-differ s = record {
-  differ = differing-objects s;
-  equal = λ h. objects-alike s (not-true-false (objectDiffers s) h);
+pub objects_differ : (s : List ℕ) → Differ (object_differs s ≡ true) (next_of Crate s) (next_of Standard s)
+objects_differ s = record {
+  differ = differing_objects s;
+  equal = λ h. objects_alike s (not_true_false (object_differs s) h);
 }
 
 -- the same of an object at a place of a record: replies that are moved by the same number of bytes can be moved back
-abbrev movedBack : ℕ → Told Stop Item → Told Stop Item
-movedBack a (ok i) = ok (record { place = i.place - a; tag = i.tag; at = i.at - a; len = i.len })
-movedBack a (refused e) = refused (record { number = e.number; place = e.place - a })
+abbrev moved_back : ℕ → Told Stop Item → Told Stop Item
+moved_back a (ok i) = ok (record { place = i.place - a; tag = i.tag; at = i.at - a; len = i.len })
+moved_back a (refused e) = refused (record { number = e.number; place = e.place - a })
 
-there_and_back : (a : ℕ) (x : Told Stop Item) → movedBack a (moved a x) ≡ x
+there_and_back : (a : ℕ) (x : Told Stop Item) → moved_back a (moved a x) ≡ x
 there_and_back a (ok i) = rw (add-sub_cancel_left, add-sub_cancel_left)
 there_and_back a (refused e) = rw add-sub_cancel_left
 
-pub objects-at-differ : (s : List ℕ) (a : ℕ) → Differ (objectDiffers (drop a s) ≡ true) (objectAt Crate s a) (objectAt Standard s a)
-objects-at-differ s a =
+pub objects_at_differ : (s : List ℕ) (a : ℕ) → Differ (object_differs (drop a s) ≡ true) (object_at Crate s a) (object_at Standard s a)
+objects_at_differ s a =
     let m = min a (length s) in
     record {
-      differ = λ d e. differing-objects (drop a s) d (apart (moved m) (movedBack m) (there_and_back m) _ _ e);
-      equal = λ h. ap (moved m) (objects-alike (drop a s) (not-true-false (objectDiffers (drop a s)) h));
+      differ = λ d e. differing_objects (drop a s) d (apart (moved m) (moved_back m) (there_and_back m) _ _ e);
+      equal = λ h. ap (moved m) (objects_alike (drop a s) (not_true_false (object_differs (drop a s)) h));
     }

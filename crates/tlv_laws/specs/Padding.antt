@@ -4,14 +4,14 @@ use Rattle.basis.specs.Reply.{Told, ok, refused}
 use Rattle.tlv.specs.Lookup.{part, Found, Halt, span_of}
 
 -- k zero bytes
-unfoldable pub zeroBytes : ℕ → List ℕ
-zeroBytes zero = []
-zeroBytes (suc k) = 0 ∷ zeroBytes k
+unfoldable pub zero_bytes : ℕ → List ℕ
+zero_bytes zero = []
+zero_bytes (suc k) = 0 ∷ zero_bytes k
 
 -- the reply of a lookup with its place k bytes further on
-abbrev pub movedLookup : ℕ → Told Halt Found → Told Halt Found
-movedLookup k (ok p) = ok (record { at = k + p.at; len = p.len; matched = p.matched })
-movedLookup k (refused h) = refused (record { number = h.number; place = k + h.place; matched = h.matched })
+abbrev pub moved_lookup : ℕ → Told Halt Found → Told Halt Found
+moved_lookup k (ok p) = ok (record { at = k + p.at; len = p.len; matched = p.matched })
+moved_lookup k (refused h) = refused (record { number = h.number; place = k + h.place; matched = h.matched })
 
 -- what a lookup in s shows, without its place: the bytes of the value, or the number of the refusal; and how many tags
 -- matched

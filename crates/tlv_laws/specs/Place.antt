@@ -2,7 +2,7 @@
 use Rattle.std.specs.Prelude.{ℕ, ◌+◌, ◌≤◌, ◌<◌, ◌≡◌, ◌⊎◌, List, length, take, get_or}
 use Rattle.basis.specs.Reply.{ok, refused}
 use Rattle.basis.specs.Every.{Every}
-use Rattle.tlv.specs.Object.{Item, Stop, objectAt}
+use Rattle.tlv.specs.Object.{Item, Stop, object_at}
 use Rattle.tlv.specs.Lookup.{Found, Halt, lookup}
 use Rattle.tlv.specs.declared.Reading.{Reading}
 use Rattle.tlv_laws.specs.Walked.{ReadOn, ReadTo}
@@ -12,8 +12,8 @@ abbrev pub up_to : Found → List ℕ → List ℕ
 up_to q s = take (q.at + q.len) s
 
 -- the number and the place of a refusal
-abbrev pub stopOf : Halt → Stop
-stopOf h = record { number = h.number; place = h.place }
+abbrev pub stop_of : Halt → Stop
+stop_of h = record { number = h.number; place = h.place }
 
 -- what is so of a refusal: the first tags of the path, as many as matched, lead to a part q. Read object by object, q
 -- has no object with the next tag, and the reading stops at the place of the refusal with its number; so does the
@@ -24,9 +24,9 @@ pub record StopsAt (r : Reading) (s path : List ℕ) (h : Halt) : Type 0 where
   pub led : lookup r s (take h.matched path) ≡ ok q
   pub inside : q.at + q.len ≤ length s
   pub items : List Item
-  pub walked : ReadOn r (up_to q s) q.at items (stopOf h)
+  pub walked : ReadOn r (up_to q s) q.at items (stop_of h)
   pub others : Every (λ i. i.tag ≡ get_or path h.matched 0 → ⊥) items
-  pub read : objectAt r (up_to q s) h.place ≡ refused (stopOf h)
+  pub read : object_at r (up_to q s) h.place ≡ refused (stop_of h)
   pub place : ((h.number ≡ 11) × (h.place ≡ q.at + q.len))
       ⊎ ((h.number ≡ 12) × (q.at ≤ h.place) × (h.place < q.at + q.len))
 

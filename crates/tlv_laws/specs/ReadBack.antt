@@ -5,17 +5,17 @@ use Rattle.basis.specs.Number.{be}
 use Rattle.tlv.specs.Object.{Item, next_of, size_of}
 use Rattle.tlv.specs.Lookup.{part}
 use Rattle.tlv.specs.declared.Reading.{Reading}
-use Rattle.tlv_write.specs.Written.{objectBytes}
+use Rattle.tlv_write.specs.Written.{object_bytes}
 
 -- an object as the writer writes it, with the number of the tag as three bytes; and that object as it is read
 abbrev pub written : ℕ → List ℕ → List ℕ
-written t v = objectBytes (be 3 t) v
+written t v = object_bytes (be 3 t) v
 
-abbrev pub objectFor : ℕ → List ℕ → Item
-objectFor t v = record { place = 0; tag = t; at = length (written t v) - length v; len = length v }
+abbrev pub object_for : ℕ → List ℕ → Item
+object_for t v = record { place = 0; tag = t; at = length (written t v) - length v; len = length v }
 
 -- with any bytes u after it: tag, value and remainder are read (rule 7.4)
 pub record ReadsBack (r : Reading) (t : ℕ) (v u : List ℕ) : Type 0 where
-  pub object : next_of r (written t v ++ u) ≡ ok (objectFor t v)
-  pub value : part (written t v ++ u) (record { at = (objectFor t v).at; len = (objectFor t v).len }) ≡ v
-  pub rest : drop (size_of (objectFor t v)) (written t v ++ u) ≡ u
+  pub object : next_of r (written t v ++ u) ≡ ok (object_for t v)
+  pub value : part (written t v ++ u) (record { at = (object_for t v).at; len = (object_for t v).len }) ≡ v
+  pub rest : drop (size_of (object_for t v)) (written t v ++ u) ≡ u

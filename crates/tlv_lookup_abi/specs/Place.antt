@@ -2,9 +2,9 @@
 use Rattle.std.specs.Prelude.{ℕ, List}
 use Rattle.tlv.specs.Lookup.{lookup}
 use Rattle.abi.specs.Answers.{Row}
-use Rattle.abi.specs.Lookups.{lookupRow}
-use Rattle.abi.specs.Readings.{tlvReadingByNumber}
+use Rattle.abi.specs.Lookups.{lookup_row}
+use Rattle.abi.specs.Readings.{tlv_reading_by_number}
 
 -- what `gorvisclen_get_data_object` tells, in the reading with number n
-unfoldable pub getDataObjectRow : ℕ → List ℕ → List ℕ → Row
-getDataObjectRow n s path = lookupRow (lookup (tlvReadingByNumber n) s path)
+unfoldable pub get_data_object_row : ℕ → List ℕ → List ℕ → Row
+get_data_object_row n s path = lookup_row (lookup (tlv_reading_by_number n) s path)

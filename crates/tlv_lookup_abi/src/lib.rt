@@ -1,7 +1,7 @@
 // What a host program calls to look a path up: the place and the length of the value, or where the lookup ended. The
 // function returns 0, or the number of a refusal (docs/RULES.md, section 1).
 ghost use Rattle.abi.specs.Answers.{RowTold};
-ghost use Rattle.tlv_lookup_abi.specs.Place.{getDataObjectRow};
+ghost use Rattle.tlv_lookup_abi.specs.Place.{get_data_object_row};
 
 use abi::{tell_lookup, tlv_reading_by_number};
 
@@ -14,7 +14,7 @@ pub extern "C" fn gorvisclen_get_data_object(
     path: &[u32],
     out: &mut [u64],
 ) -> u8
-    ensures { RowTold (getDataObjectRow reading «record».now path.now) out.old result out.new }
+    ensures { RowTold (get_data_object_row reading «record».now path.now) out.old result out.new }
 {
     let by = tlv_reading_by_number(reading);
     tell_lookup(tlv::get_data_object(by, record, path), out)

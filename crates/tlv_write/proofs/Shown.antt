@@ -6,51 +6,51 @@ use native.Mathlib.Omega.{arith}
 use borrow.Author.Tests.{le-leb, lt-leb}
 use lib.ListN.{length, get_or}
 use Rattle.basis.specs.Number.{be}
-use Rattle.tlv_write.specs.Written.{tagBytes, lenBytes}
+use Rattle.tlv_write.specs.Written.{tag_bytes, len_bytes}
 
 -- a list of three bytes, byte by byte
-three-bytes-of : (t : List ℕ) → length t ≡ 3 → t ≡ get_or t 0 0 ∷ get_or t 1 0 ∷ get_or t 2 0 ∷ []
-three-bytes-of [] h = absurd (omega arith)
-three-bytes-of (a ∷ []) h = absurd (omega arith)
-three-bytes-of (a ∷ b ∷ []) h = absurd (omega arith)
-three-bytes-of (a ∷ b ∷ c ∷ []) h = refl
-three-bytes-of (a ∷ b ∷ c ∷ d ∷ t) h = absurd (omega arith)
+three_bytes_of : (t : List ℕ) → length t ≡ 3 → t ≡ get_or t 0 0 ∷ get_or t 1 0 ∷ get_or t 2 0 ∷ []
+three_bytes_of [] h = absurd (omega arith)
+three_bytes_of (a ∷ []) h = absurd (omega arith)
+three_bytes_of (a ∷ b ∷ []) h = absurd (omega arith)
+three_bytes_of (a ∷ b ∷ c ∷ []) h = refl
+three_bytes_of (a ∷ b ∷ c ∷ d ∷ t) h = absurd (omega arith)
 
-first-kept : (a b : ℕ) (s : List ℕ) → (a ≡ 0 → ⊥) → tagBytes (a ∷ b ∷ s) ≡ a ∷ b ∷ s
-unfolding tagBytes
-first-kept zero b s f = absurd (f refl)
-first-kept (suc a) b s f = refl
+first_kept : (a b : ℕ) (s : List ℕ) → (a ≡ 0 → ⊥) → tag_bytes (a ∷ b ∷ s) ≡ a ∷ b ∷ s
+unfolding tag_bytes
+first_kept zero b s f = absurd (f refl)
+first_kept (suc a) b s f = refl
 
-zero-dropped : (a b : ℕ) (s : List ℕ) → a ≡ 0 → tagBytes (a ∷ b ∷ s) ≡ tagBytes (b ∷ s)
-unfolding tagBytes
-zero-dropped a b s e = rw e
+zero_dropped : (a b : ℕ) (s : List ℕ) → a ≡ 0 → tag_bytes (a ∷ b ∷ s) ≡ tag_bytes (b ∷ s)
+unfolding tag_bytes
+zero_dropped a b s e = rw e
 
-last-kept : (a : ℕ) → tagBytes (a ∷ []) ≡ a ∷ []
-unfolding tagBytes
-last-kept a = refl
+last_kept : (a : ℕ) → tag_bytes (a ∷ []) ≡ a ∷ []
+unfolding tag_bytes
+last_kept a = refl
 
 -- a tag that is written as three bytes, as two, and as one (rule 7.1)
 module _ (t : List ℕ) (h : length t ≡ 3) where
-  pub tag-three : (get_or t 0 0 ≡ 0 → ⊥) → tagBytes t ≡ get_or t 0 0 ∷ get_or t 1 0 ∷ get_or t 2 0 ∷ []
-  tag-three f = ap tagBytes (three-bytes-of t h) ∙ first-kept _ _ _ f
+  pub tag_three : (get_or t 0 0 ≡ 0 → ⊥) → tag_bytes t ≡ get_or t 0 0 ∷ get_or t 1 0 ∷ get_or t 2 0 ∷ []
+  tag_three f = ap tag_bytes (three_bytes_of t h) ∙ first_kept _ _ _ f
 
-  pub tag-two : get_or t 0 0 ≡ 0 → (get_or t 1 0 ≡ 0 → ⊥) → tagBytes t ≡ get_or t 1 0 ∷ get_or t 2 0 ∷ []
-  tag-two e f = ap tagBytes (three-bytes-of t h) ∙ zero-dropped _ _ _ e ∙ first-kept _ _ _ f
+  pub tag_two : get_or t 0 0 ≡ 0 → (get_or t 1 0 ≡ 0 → ⊥) → tag_bytes t ≡ get_or t 1 0 ∷ get_or t 2 0 ∷ []
+  tag_two e f = ap tag_bytes (three_bytes_of t h) ∙ zero_dropped _ _ _ e ∙ first_kept _ _ _ f
 
-  pub tag_one : get_or t 0 0 ≡ 0 → get_or t 1 0 ≡ 0 → tagBytes t ≡ get_or t 2 0 ∷ []
-  tag_one e f = ap tagBytes (three-bytes-of t h) ∙ zero-dropped _ _ _ e ∙ zero-dropped _ _ _ f ∙ last-kept _
+  pub tag_one : get_or t 0 0 ≡ 0 → get_or t 1 0 ≡ 0 → tag_bytes t ≡ get_or t 2 0 ∷ []
+  tag_one e f = ap tag_bytes (three_bytes_of t h) ∙ zero_dropped _ _ _ e ∙ zero_dropped _ _ _ f ∙ last_kept _
 
 -- a length in one byte, in two, and in three (rule 7.2)
-pub len-one : (n : ℕ) → n ≤ 0x7F → lenBytes n ≡ n ∷ []
-unfolding lenBytes
-len-one n h = rw (le-leb _ _ h)
+pub len_one : (n : ℕ) → n ≤ 0x7F → len_bytes n ≡ n ∷ []
+unfolding len_bytes
+len_one n h = rw (le-leb _ _ h)
 
 module _ (n : ℕ) (h : 0x7F < n) where
-  pub len-two : n ≤ 0xFF → lenBytes n ≡ 0x81 ∷ n ∷ []
-  unfolding lenBytes
-  len-two g = rw (lt-leb _ _ h, le-leb _ _ g)
+  pub len_two : n ≤ 0xFF → len_bytes n ≡ 0x81 ∷ n ∷ []
+  unfolding len_bytes
+  len_two g = rw (lt-leb _ _ h, le-leb _ _ g)
 
-  pub len-three : 0xFF < n → n ≤ 65535 → lenBytes n ≡ 0x82 ∷ n / 256 ∷ n % 256 ∷ []
-  unfolding lenBytes be
-  len-three g l =
+  pub len_three : 0xFF < n → n ≤ 65535 → len_bytes n ≡ 0x82 ∷ n / 256 ∷ n % 256 ∷ []
+  unfolding len_bytes be
+  len_three g l =
       let e : n / 256 % 256 ≡ n / 256 = omega arith in rw (lt-leb _ _ h, lt-leb _ _ g, e)

@@ -1,8 +1,8 @@
 // BER objects written: the tag, the shortest length, and the value, each straight into the output (rule 12.15).
 // Ported, with changes, from src/tlv.rs of the crate iso7816 0.2.2 (see NOTICE).
 ghost use Rattle.std.specs.Prelude.{◌≡◌, ◌+◌, ◌≤◌, length};
-ghost use Rattle.basis.specs.Over.{over, overAt};
-ghost use Rattle.tlv_write.specs.Written.{tagBytes, lenBytes, objectBytes, put-data-object-is};
+ghost use Rattle.basis.specs.Over.{over, over_at};
+ghost use Rattle.tlv_write.specs.Written.{tag_bytes, len_bytes, object_bytes, PutDataObjectIs};
 
 // How many bytes were written; refused if the value is above 65,535 bytes (19) or the object does not fit from the
 // place (16).
@@ -14,7 +14,7 @@ pub enum PutDataObject {
 
 // How many bytes a tag takes without the zero bytes in front; the last byte stays (rule 7.1).
 fn tag_size(tag: [u8; 3]) -> usize
-    ensures { (result ≡ length (tagBytes tag)) × (result ≤ 3) }
+    ensures { (result ≡ length (tag_bytes tag)) × (result ≤ 3) }
 {
     if tag[0] != 0 {
         return 3;
@@ -28,7 +28,7 @@ fn tag_size(tag: [u8; 3]) -> usize
 // How many bytes a length takes in the shortest form (rule 7.2).
 fn len_size(len: usize) -> usize
     requires { len ≤ 65535 }
-    ensures { (result ≡ length (lenBytes len)) × (result ≤ 3) }
+    ensures { (result ≡ length (len_bytes len)) × (result ≤ 3) }
 {
     if len <= 0x7F {
         return 1;
@@ -42,8 +42,8 @@ fn len_size(len: usize) -> usize
 // Writes a tag without the zero bytes in front over the front of a part; the last byte stays (rule 7.1). Any three
 // bytes are taken, and none is changed (rule 7.5).
 fn put_tag(tag: [u8; 3], part: &mut [u8])
-    requires { length (tagBytes tag) ≤ length part.old }
-    ensures { part.new ≡ over (tagBytes tag) part.old }
+    requires { length (tag_bytes tag) ≤ length part.old }
+    ensures { part.new ≡ over (tag_bytes tag) part.old }
 {
     let b1 = tag[0];
     let b2 = tag[1];
@@ -64,8 +64,8 @@ fn put_tag(tag: [u8; 3], part: &mut [u8])
 
 // Writes a length in the shortest form over the front of a part (rule 7.2).
 fn put_len(n: usize, part: &mut [u8])
-    requires { (n ≤ 65535) × (length (lenBytes n) ≤ length part.old) }
-    ensures { part.new ≡ over (lenBytes n) part.old }
+    requires { (n ≤ 65535) × (length (len_bytes n) ≤ length part.old) }
+    ensures { part.new ≡ over (len_bytes n) part.old }
 {
     if n <= 0x7F {
         part[0] = n as u8;
@@ -92,8 +92,8 @@ fn put_value(value: &[u8], part: &mut [u8])
 // Writes an object that fits: tag, length and value, each into the part of the buffer that starts at its place.
 fn write(tag: [u8; 3], value: &[u8], buffer: &mut [u8], at: usize)
     requires { (length value.now ≤ 65535)
-        × (at + (length (tagBytes tag) + length (lenBytes (length value.now)) + length value.now) ≤ length buffer.old) }
-    ensures { buffer.new ≡ overAt at (objectBytes tag value.now) buffer.old }
+        × (at + (length (tag_bytes tag) + length (len_bytes (length value.now)) + length value.now) ≤ length buffer.old) }
+    ensures { buffer.new ≡ over_at at (object_bytes tag value.now) buffer.old }
 {
     let n = value.len();
     put_tag(tag, &mut buffer[at..]);
@@ -105,7 +105,7 @@ fn write(tag: [u8; 3], value: &[u8], buffer: &mut [u8], at: usize)
 
 // Writes an object into a buffer from a place (rule 7.3). Bytes before it and after it stay. A refusal changes nothing.
 pub fn put_data_object(tag: [u8; 3], value: &[u8], buffer: &mut [u8], at: usize) -> PutDataObject
-    ensures { put-data-object-is tag value.now buffer.old at result buffer.new }
+    ensures { PutDataObjectIs tag value.now buffer.old at result buffer.new }
 {
     let n = value.len();
     if 65535 < n {

@@ -1,12 +1,12 @@
 use borrow.Author.Rules.{rules}
-use Rattle.aid_abi.specs.Numbers.{aidReply}
+use Rattle.aid_abi.specs.Numbers.{aid_reply}
 use Rattle.aid_abi.proofs.gorvisclen_aid.Statement.{statement}
 use Rattle.aid_abi.proofs.gorvisclen_aid.Tie as tie
 
 returns : tie.Need-returns
-unfolding aidReply
+unfolding aid_reply
 returns c =
     let t = c.before.before in rw (← t.before.before.try-new-truncatable.ensures.answered) t.write-made.ensures
 
-pub gorvisclen-aid-spec : {M : Type 1} → statement M
-gorvisclen-aid-spec = tie.close (tie.spec (λ c κs. search rules) (λ c κs. search rules) (λ c. search rules) returns)
+pub gorvisclen_aid_spec : {M : Type 1} → statement M
+gorvisclen_aid_spec = tie.close (tie.spec (λ c κs. search rules) (λ c κs. search rules) (λ c. search rules) returns)

@@ -1,10 +1,10 @@
 use borrow.Author.Rules.{rules}
-use Rattle.aid_abi.specs.Numbers.{numbersOf}
+use Rattle.aid_abi.specs.Numbers.{numbers_of}
 use Rattle.aid_abi.proofs.numbers.Statement.{statement}
 use Rattle.aid_abi.proofs.numbers.Tie as tie
 
 returns : tie.Need-returns
-unfolding numbersOf
+unfolding numbers_of
 returns c =
     let f = c.before.before.before.before in
     let g = f.before.before.before.before in
@@ -31,8 +31,8 @@ returns c =
       l.before.before.before.part-len.ensures,
     )
 
-pub numbers-spec : {M : Type 1} → statement M
-numbers-spec =
+pub numbers_spec : {M : Type 1} → statement M
+numbers_spec =
     tie.close
     (tie.spec
     (λ c κs. search rules)

@@ -5,9 +5,9 @@ use Rattle.builder_abi.proofs.forced.Tie as tie
 returns : tie.Need-returns
 returns c = rw c.before.built.given.1
 
-returns-2 : tie.Need-returns-2
-returns-2 c = rw c.before.before.built2.given.1 c.force-extended.ensures
+returns_2 : tie.Need-returns-2
+returns_2 c = rw c.before.before.built2.given.1 c.force-extended.ensures
 
-pub forced-spec : {M : Type 1} → statement M
-forced-spec =
-    tie.close (tie.spec (λ c. search rules) (λ c. search rules) (λ c κs. search rules) returns returns-2)
+pub forced_spec : {M : Type 1} → statement M
+forced_spec =
+    tie.close (tie.spec (λ c. search rules) (λ c. search rules) (λ c κs. search rules) returns returns_2)

@@ -8,11 +8,11 @@ returns c =
     let b = c.before.before in
     rw (b.built.given.1, lt-ltb b.built.given.0.0 b.before.before.args.j c.if1.true)
 
-returns-3 : tie.Need-returns-3
-returns-3 c =
+returns_3 : tie.Need-returns-3
+returns_3 c =
     let b = c.before.before in
     rw (b.built.given.1, le-ltb b.built.given.0.0 b.before.before.args.j c.if1.false)
 
-pub smaller-spec : {M : Type 1} → statement M
-smaller-spec =
-    tie.close (tie.spec (λ c. search rules) (λ c. search rules) returns (λ c. search rules) returns-3)
+pub smaller_spec : {M : Type 1} → statement M
+smaller_spec =
+    tie.close (tie.spec (λ c. search rules) (λ c. search rules) returns (λ c. search rules) returns_3)

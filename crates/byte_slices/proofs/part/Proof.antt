@@ -5,7 +5,7 @@ use mathlib.Core.List.{List}
 use native.Mathlib.Omega.{arith}
 use lib.ListN.{take, drop, length-drop, drop_of_length-le}
 use lib.Seq.{take_all, take-nil}
-use Rattle.basis.proofs.Over.{rest-is}
+use Rattle.basis.proofs.Over.{rest_is}
 use Rattle.byte_slices.proofs.part.Statement.{statement}
 use Rattle.byte_slices.proofs.part.Tie as tie
 
@@ -15,19 +15,19 @@ returns c =
     let none = drop_of_length-le a.bytes.now {i = a.at} (omega (arith, c.before.if1.true)) in
     sym (ap (λ (l : List ℕ). take a.len l) none ∙ take-nil a.len)
 
-returns-2 : tie.Need-returns-2
-returns-2 c =
+returns_2 : tie.Need-returns-2
+returns_2 c =
     let a = c.before.before.before.args in
-    rest-is a.at a.bytes.now ∙ sym (take_all a.len (drop a.at a.bytes.now) (simp length-drop (omega (arith, c.before.if2.true))))
+    rest_is a.at a.bytes.now ∙ sym (take_all a.len (drop a.at a.bytes.now) (simp length-drop (omega (arith, c.before.if2.true))))
 
-returns-3 : tie.Need-returns-3
-returns-3 c =
+returns_3 : tie.Need-returns-3
+returns_3 c =
     let a = c.before.before.before.args in
     let n : a.at + a.len - a.at ≡ a.len = omega arith in
     ap (λ (k : ℕ). take k (drop a.at a.bytes.now)) n
 
-pub part-spec : {M : Type 1} → statement M
-part-spec =
+pub part_spec : {M : Type 1} → statement M
+part_spec =
     tie.close
     (tie.spec
     (λ c. search rules)
@@ -35,9 +35,9 @@ part-spec =
     (λ c. search rules)
     (λ c. search rules)
     (λ c. search rules)
-    returns-2
+    returns_2
     (λ c. search rules)
     (λ c. search rules)
     (λ c. search rules)
     (λ c. search rules)
-    returns-3)
+    returns_3)

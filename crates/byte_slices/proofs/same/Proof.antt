@@ -11,21 +11,21 @@ use Rattle.byte_slices.proofs.Slices.{other_length, same_next}
 use Rattle.byte_slices.proofs.same.Statement.{statement}
 use Rattle.byte_slices.proofs.same.Tie as tie
 
-abbrev invariant-loop : tie.invariant-loop
-invariant-loop a b i₀ ok₀ i ok = (ok ≡ same (take i a) (take i b)) × (i ≤ length a)
+abbrev invariant_loop : tie.invariant-loop
+invariant_loop a b i₀ ok₀ i ok = (ok ≡ same (take i a) (take i b)) × (i ≤ length a)
 
-abbrev decreases-loop : tie.decreases-loop
-decreases-loop a b i₀ ok₀ i ok = length a - i
+abbrev decreases_loop : tie.decreases-loop
+decreases_loop a b i₀ ok₀ i ok = length a - i
 
-returns : tie.Need-returns invariant-loop decreases-loop
+returns : tie.Need-returns invariant_loop decreases_loop
 returns c = other_length _ _ c.if1.true
 
-loop-holds : tie.Need-loop-init invariant-loop decreases-loop
+loop_holds : tie.Need-loop-init invariant_loop decreases_loop
 unfolding same
-loop-holds c = (refl, omega arith)
+loop_holds c = (refl, omega arith)
 
-loop-again : tie.Need-loop-preserved invariant-loop decreases-loop
-loop-again c =
+loop_again : tie.Need-loop-preserved invariant_loop decreases_loop
+loop_again c =
     let l = c.before.before.before.before in
     let s = l.before.before.before.before.args in
     let a = s.a.now in
@@ -36,8 +36,8 @@ loop-again c =
       omega arith,
     )
 
-returns-2 : tie.Need-returns-2 invariant-loop decreases-loop
-returns-2 c =
+returns_2 : tie.Need-returns-2 invariant_loop decreases_loop
+returns_2 c =
     let l = c.before.loop in
     let s = c.before.before.before.before.before in
     let a = s.args.a.now in
@@ -47,5 +47,5 @@ returns-2 c =
 pub same_spec : {M : Type 1} → statement M
 same_spec =
     tie.close
-    (tie.spec invariant-loop decreases-loop returns loop-holds (λ c. search rules) (λ c. omega arith) (λ c κs. search rules) (λ c. search rules) (λ c. omega arith)
-    loop-again returns-2)
+    (tie.spec invariant_loop decreases_loop returns loop_holds (λ c. search rules) (λ c. omega arith) (λ c κs. search rules) (λ c. search rules) (λ c. omega arith)
+    loop_again returns_2)

@@ -5,8 +5,8 @@ use Rattle.byte_slices.proofs.still_same.Tie as tie
 returns : tie.Need-returns
 returns c = rw (ne_eqb _ _ c.if1.true)
 
-returns-2 : tie.Need-returns-2
-returns-2 c = rw (eq-eqb _ _ c.if1.false)
+returns_2 : tie.Need-returns-2
+returns_2 c = rw (eq-eqb _ _ c.if1.false)
 
-pub still-same-spec : {M : Type 1} → statement M
-still-same-spec = tie.close (tie.spec returns returns-2)
+pub still_same_spec : {M : Type 1} → statement M
+still_same_spec = tie.close (tie.spec returns returns_2)

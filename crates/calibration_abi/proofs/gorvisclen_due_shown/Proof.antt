@@ -1,34 +1,34 @@
 use borrow.Author.Rules.{rules}
-use Rattle.basis.proofs.Reply.{matched-reply}
-use Rattle.calibration.specs.Shown.{asReply}
-use Rattle.calibration_abi.proofs.Replies.{copy-refused, copy-answered, shown_of}
+use Rattle.basis.proofs.Reply.{matched_reply}
+use Rattle.calibration.specs.Shown.{as_reply}
+use Rattle.calibration_abi.proofs.Replies.{copy_refused, copy_answered, shown_of}
 use Rattle.calibration_abi.proofs.gorvisclen_due_shown.Statement.{statement}
 use Rattle.calibration_abi.proofs.gorvisclen_due_shown.Tie as tie
 
 returns : tie.Need-returns
 returns c =
     let k = c.before.before in
-    copy-refused _ _ _ _ _ (shown_of _ _ _ (matched-reply asReply k.before.before.due-shown-from.ensures k.k.given.1))
+    copy_refused _ _ _ _ _ (shown_of _ _ _ (matched_reply as_reply k.before.before.due-shown-from.ensures k.k.given.1))
     c.refusal-status.ensures
 
-returns-2 : tie.Need-returns-2
-returns-2 c =
+returns_2 : tie.Need-returns-2
+returns_2 c =
     let y = c.before.before.before.before in
     let d = y.before.before.before in
     let w = d.before in
-    copy-answered _ _ _ _ _ _ _ _ (shown_of _ _ _ (matched-reply asReply w.before.before.due-shown-from.ensures w.enum_told.given.1))
+    copy_answered _ _ _ _ _ _ _ _ (shown_of _ _ _ (matched_reply as_reply w.before.before.due-shown-from.ensures w.enum_told.given.1))
     d.due-shown.ensures y.copy-bytes.ensures
 
-returns-3 : tie.Need-returns-3
-returns-3 c =
+returns_3 : tie.Need-returns-3
+returns_3 c =
     let y = c.before.before.before.before in
     let d = y.before.before.before in
     let w = d.before in
-    copy-answered _ _ _ _ _ _ _ _ (shown_of _ _ _ (matched-reply asReply w.before.before.due-shown-from.ensures w.enum-told2.given.1))
+    copy_answered _ _ _ _ _ _ _ _ (shown_of _ _ _ (matched_reply as_reply w.before.before.due-shown-from.ensures w.enum-told2.given.1))
     d.due-shown2.ensures y.copy-bytes2.ensures
 
-pub gorvisclen-due-shown-spec : {M : Type 1} → statement M
-gorvisclen-due-shown-spec =
+pub gorvisclen_due_shown_spec : {M : Type 1} → statement M
+gorvisclen_due_shown_spec =
     tie.close
     (tie.spec
     (λ c κs. search rules)
@@ -43,7 +43,7 @@ gorvisclen-due-shown-spec =
     returns
     (λ c. search rules)
     (λ c. search rules)
-    returns-2
+    returns_2
     (λ c. search rules)
     (λ c. search rules)
-    returns-3)
+    returns_3)

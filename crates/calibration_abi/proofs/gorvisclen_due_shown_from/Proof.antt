@@ -1,33 +1,33 @@
 use borrow.Author.Rules.{rules}
 use mathlib.Core.Path.{refl}
-use Rattle.basis.proofs.Reply.{matched-reply}
-use Rattle.calibration.specs.Shown.{asReply}
-use Rattle.calibration_abi.proofs.Replies.{refusal-answered, numbers-answered, whose-by}
+use Rattle.basis.proofs.Reply.{matched_reply}
+use Rattle.calibration.specs.Shown.{as_reply}
+use Rattle.calibration_abi.proofs.Replies.{refusal_answered, numbers_answered, whose_by}
 use Rattle.calibration_abi.proofs.gorvisclen_due_shown_from.Statement.{statement}
 use Rattle.calibration_abi.proofs.gorvisclen_due_shown_from.Tie as tie
 
 returns : tie.Need-returns
 returns c =
     let k = c.before.before in
-    refusal-answered _ _ _ 2 _ (whose-by _ _ _ (matched-reply asReply k.before.before.due-shown-from.ensures k.k.given.1))
+    refusal_answered _ _ _ 2 _ (whose_by _ _ _ (matched_reply as_reply k.before.before.due-shown-from.ensures k.k.given.1))
     c.refusal-status.ensures
 
-returns-2 : tie.Need-returns-2
-returns-2 c =
+returns_2 : tie.Need-returns-2
+returns_2 c =
     let w = c.before.before in
     let a = w.before.before.before.before in
-    let card = whose-by _ _ _ (matched-reply asReply a.before.before.due-shown-from.ensures a.at.given.1) in
-    numbers-answered _ _ _ 2 _ _ _ card refl refl w.write-numbers.ensures
+    let card = whose_by _ _ _ (matched_reply as_reply a.before.before.due-shown-from.ensures a.at.given.1) in
+    numbers_answered _ _ _ 2 _ _ _ card refl refl w.write-numbers.ensures
 
-returns-3 : tie.Need-returns-3
-returns-3 c =
+returns_3 : tie.Need-returns-3
+returns_3 c =
     let w = c.before.before in
     let a = w.before.before.before.before in
-    let desk = whose-by _ _ _ (matched-reply asReply a.before.before.due-shown-from.ensures a.at2.given.1) in
-    numbers-answered _ _ _ 2 _ _ _ desk refl refl w.write-numbers2.ensures
+    let desk = whose_by _ _ _ (matched_reply as_reply a.before.before.due-shown-from.ensures a.at2.given.1) in
+    numbers_answered _ _ _ 2 _ _ _ desk refl refl w.write-numbers2.ensures
 
-pub gorvisclen-due-shown-from-spec : {M : Type 1} → statement M
-gorvisclen-due-shown-from-spec =
+pub gorvisclen_due_shown_from_spec : {M : Type 1} → statement M
+gorvisclen_due_shown_from_spec =
     tie.close
     (tie.spec
     (λ c κs. search rules)
@@ -41,6 +41,6 @@ gorvisclen-due-shown-from-spec =
     (λ c κs. search rules)
     returns
     (λ c. search rules)
-    returns-2
+    returns_2
     (λ c. search rules)
-    returns-3)
+    returns_3)

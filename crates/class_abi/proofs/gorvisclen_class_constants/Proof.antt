@@ -1,6 +1,6 @@
 use borrow.Author.Rules.{rules}
 use native.Mathlib.Omega.{arith}
-use Rattle.class_abi.proofs.LentSlices.{constants-written}
+use Rattle.class_abi.proofs.LentSlices.{constants_written}
 use Rattle.class_abi.proofs.gorvisclen_class_constants.Statement.{statement}
 use Rattle.class_abi.proofs.gorvisclen_class_constants.Tie as tie
 
@@ -8,11 +8,11 @@ returns : tie.Need-returns
 returns c =
     let t = c.before.before in
     let m = t.before.before.before in
-    constants-written _ _ _ _ _ _ t.write-numbers.ensures (omega (arith, m.before.before.into-inner.ensures)) (omega (arith, m.before.into-inner2.ensures))
+    constants_written _ _ _ _ _ _ t.write-numbers.ensures (omega (arith, m.before.before.into-inner.ensures)) (omega (arith, m.before.into-inner2.ensures))
     (omega (arith, m.into-inner3.ensures))
 
-pub gorvisclen-class-constants-spec : {M : Type 1} → statement M
-gorvisclen-class-constants-spec =
+pub gorvisclen_class_constants_spec : {M : Type 1} → statement M
+gorvisclen_class_constants_spec =
     tie.close
     (tie.spec
     (λ c κs. search rules)

@@ -1,10 +1,10 @@
 use borrow.Author.Rules.{rules}
-use Rattle.class_abi.specs.Numbers.{numbersOf}
+use Rattle.class_abi.specs.Numbers.{numbers_of}
 use Rattle.class_abi.proofs.numbers.Statement.{statement}
 use Rattle.class_abi.proofs.numbers.Tie as tie
 
 returns : tie.Need-returns
-unfolding numbersOf
+unfolding numbers_of
 returns c =
     let n = c.before.before.before.before in
     rw (
@@ -18,8 +18,8 @@ returns c =
       n.before.before.before.range.ensures,
     )
 
-pub numbers-spec : {M : Type 1} → statement M
-numbers-spec =
+pub numbers_spec : {M : Type 1} → statement M
+numbers_spec =
     tie.close
     (tie.spec
     (λ c κs. search rules)

@@ -25,8 +25,8 @@ returns c =
       n.before.before.before.before.range-number.ensures,
     )
 
-pub row-spec : {M : Type 1} → statement M
-row-spec =
+pub row_spec : {M : Type 1} → statement M
+row_spec =
     tie.close
     (tie.spec
     (λ c κs. search rules)

@@ -11,8 +11,8 @@ returns c =
     let a = c.before.before.before.before.args in
     ap Command c.with-le.ensures ∙ sym (ap (λ (s : Sent). again s a.xx) c.before.before.sent.given.1)
 
-returns-2 : tie.Need-returns-2
-returns-2 c =
+returns_2 : tie.Need-returns-2
+returns_2 c =
     let a = c.before.before.before.before.args in
     ap GetResponse c.with-le2.ensures ∙ sym (ap (λ (s : Sent). again s a.xx) c.before.before.sent2.given.1)
 
@@ -25,4 +25,4 @@ again_spec =
     (λ c. search rules)
     (λ c κs. search rules)
     returns
-    returns-2)
+    returns_2)

@@ -1,11 +1,11 @@
 use borrow.Author.Rules.{rules}
 use mathlib.Core.List.{[], ◌∷◌}
-use Rattle.collect_abi.specs.Numbers.{builderNumbers}
+use Rattle.collect_abi.specs.Numbers.{builder_numbers}
 use Rattle.collect_abi.proofs.builder_numbers.Statement.{statement}
 use Rattle.collect_abi.proofs.builder_numbers.Tie as tie
 
 returns : tie.Need-returns
-unfolding builderNumbers
+unfolding builder_numbers
 returns c =
     let k = c.before.before.before.before.before in
     let a = k.before.before.args in
@@ -15,8 +15,8 @@ returns c =
     let mode = c.mode-number.ensures in
     λ i. a.kind ∷ class i ∷ b.instruction ∷ b.p1 ∷ b.p2 ∷ le i ∷ mode i ∷ a.held ∷ []
 
-pub builder-numbers-spec : {M : Type 1} → statement M
-builder-numbers-spec =
+pub builder_numbers_spec : {M : Type 1} → statement M
+builder_numbers_spec =
     tie.close
     (tie.spec
     (λ c κs. search rules)

@@ -6,13 +6,13 @@ use Rattle.collect_abi.proofs.data_by_kind.Tie as tie
 returns : tie.Need-returns
 returns c = rw (eq-eqb c.before.args.kind 0 c.if1.true)
 
-returns-2 : tie.Need-returns-2
-returns-2 c = rw (ne_eqb c.before.before.args.kind 0 c.before.if1.false)
+returns_2 : tie.Need-returns-2
+returns_2 c = rw (ne_eqb c.before.before.args.kind 0 c.before.if1.false)
 
-pub data-by-kind-spec : {M : Type 1} → statement M
-data-by-kind-spec =
+pub data_by_kind_spec : {M : Type 1} → statement M
+data_by_kind_spec =
     tie.close
     (tie.spec
     returns
     (λ c. search rules)
-    returns-2)
+    returns_2)

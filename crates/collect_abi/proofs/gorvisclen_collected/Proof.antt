@@ -1,5 +1,5 @@
 use borrow.Author.Rules.{rules}
-use Rattle.collect_abi.proofs.LentSlices.{data-copied}
+use Rattle.collect_abi.proofs.LentSlices.{data_copied}
 use Rattle.collect_abi.proofs.gorvisclen_collected.Statement.{statement}
 use Rattle.collect_abi.proofs.gorvisclen_collected.Tie as tie
 
@@ -7,10 +7,10 @@ returns : tie.Need-returns
 returns c =
     let y = c.before.before.before.before in
     let d = y.before.before.before in
-    data-copied _ _ _ _ _ _ _ _ _ d.before.response-of-length.ensures d.collected.ensures y.copy-bytes.ensures
+    data_copied _ _ _ _ _ _ _ _ _ d.before.response-of-length.ensures d.collected.ensures y.copy-bytes.ensures
 
-pub gorvisclen-collected-spec : {M : Type 1} → statement M
-gorvisclen-collected-spec =
+pub gorvisclen_collected_spec : {M : Type 1} → statement M
+gorvisclen_collected_spec =
     tie.close
     (tie.spec
     (λ c κs. search rules)

@@ -5,12 +5,12 @@ use Rattle.collect_abi.proofs.sent_by_kind.Tie as tie
 returns : tie.Need-returns
 returns c = rw (eq-eqb c.before.args.kind 0 c.if1.true)
 
-returns-2 : tie.Need-returns-2
-returns-2 c = rw (ne_eqb c.before.args.kind 0 c.if1.false)
+returns_2 : tie.Need-returns-2
+returns_2 c = rw (ne_eqb c.before.args.kind 0 c.if1.false)
 
-pub sent-by-kind-spec : {M : Type 1} → statement M
-sent-by-kind-spec =
+pub sent_by_kind_spec : {M : Type 1} → statement M
+sent_by_kind_spec =
     tie.close
     (tie.spec
     returns
-    returns-2)
+    returns_2)

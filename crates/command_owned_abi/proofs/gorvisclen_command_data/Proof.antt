@@ -1,6 +1,6 @@
 use borrow.Author.Rules.{rules}
 use mathlib.Core.Path.{refl, sym, ap, ◌∙◌}
-use Rattle.command.specs.Command.{asReply}
+use Rattle.command.specs.Command.{as_reply}
 use Rattle.command_owned_abi.proofs.gorvisclen_command_data.Statement.{statement}
 use Rattle.command_owned_abi.proofs.gorvisclen_command_data.Tie as tie
 
@@ -8,18 +8,18 @@ returns : tie.Need-returns
 returns c =
     let k = c.before.before in
     let t = k.before.before in
-    rw (← t.before.class-reading-by-number.ensures, sym t.try-from.ensures ∙ ap asReply k.k.given.1) (c.refusal-status.ensures, refl, refl)
+    rw (← t.before.class-reading-by-number.ensures, sym t.try-from.ensures ∙ ap as_reply k.k.given.1) (c.refusal-status.ensures, refl, refl)
 
-returns-2 : tie.Need-returns-2
-returns-2 c =
+returns_2 : tie.Need-returns-2
+returns_2 c =
     let y = c.before.before.before.before in
     let p = y.before.before.before in
     let v = p.before.before in
     let t = v.before.before in
-    rw (← t.before.class-reading-by-number.ensures, sym t.try-from.ensures ∙ ap asReply v.view.given.1) (rw p.part.ensures at y.copy-bytes.ensures)
+    rw (← t.before.class-reading-by-number.ensures, sym t.try-from.ensures ∙ ap as_reply v.view.given.1) (rw p.part.ensures at y.copy-bytes.ensures)
 
-pub gorvisclen-command-data-spec : {M : Type 1} → statement M
-gorvisclen-command-data-spec =
+pub gorvisclen_command_data_spec : {M : Type 1} → statement M
+gorvisclen_command_data_spec =
     tie.close
     (tie.spec
     (λ c κs. search rules)
@@ -32,4 +32,4 @@ gorvisclen-command-data-spec =
     returns
     (λ c. search rules)
     (λ c. search rules)
-    returns-2)
+    returns_2)

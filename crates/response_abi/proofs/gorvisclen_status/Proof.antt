@@ -1,10 +1,10 @@
 use borrow.Author.Rules.{rules}
-use Rattle.response_abi.specs.Numbers.{statusNumbers}
+use Rattle.response_abi.specs.Numbers.{status_numbers}
 use Rattle.response_abi.proofs.gorvisclen_status.Statement.{statement}
 use Rattle.response_abi.proofs.gorvisclen_status.Tie as tie
 
 returns : tie.Need-returns
-unfolding statusNumbers
+unfolding status_numbers
 returns c =
     let t = c.before.before in
     let p = t.before.before.before in
@@ -18,8 +18,8 @@ returns c =
       w.word.ensures,
     ) at t.write-numbers.ensures
 
-pub gorvisclen-status-spec : {M : Type 1} → statement M
-gorvisclen-status-spec =
+pub gorvisclen_status_spec : {M : Type 1} → statement M
+gorvisclen_status_spec =
     tie.close
     (tie.spec
     (λ c κs. search rules)

@@ -7,14 +7,14 @@ returns c =
     let t = c.before.before in
     rw t.before.before.before.enum_told.given.1 t.write-numbers.ensures
 
-returns-2 : tie.Need-returns-2
-returns-2 c =
+returns_2 : tie.Need-returns-2
+returns_2 c =
     let t = c.before.before in
     let e = t.before.before.before in
     rw (e.before.before.before.rest.given.1, ← e.expected-len-number.ensures) t.write-numbers2.ensures
 
-pub write-piece-spec : {M : Type 1} → statement M
-write-piece-spec =
+pub write_piece_spec : {M : Type 1} → statement M
+write_piece_spec =
     tie.close
     (tie.spec
     (λ c. search rules)
@@ -27,4 +27,4 @@ write-piece-spec =
     (λ c. search rules)
     returns
     (λ c. search rules)
-    returns-2)
+    returns_2)

@@ -1,5 +1,5 @@
 use borrow.Author.Rules.{rules}
-use Rattle.tlv_chunks_abi.proofs.Rows.{chunk-told}
+use Rattle.tlv_chunks_abi.proofs.Rows.{chunk_told}
 use Rattle.tlv_chunks_abi.proofs.gorvisclen_take_chunk.Statement.{statement}
 use Rattle.tlv_chunks_abi.proofs.gorvisclen_take_chunk.Tie as tie
 
@@ -9,10 +9,10 @@ returns c =
     let x = t.before.before in
     let w = x.before in
     let a = w.before.before.before.args in
-    chunk-told a.kind a.tag a.number a.chunk.now _ _ _ _ _ w.walk-by-numbers.ensures x.take.ensures t.tell-answer.ensures
+    chunk_told a.kind a.tag a.number a.chunk.now _ _ _ _ _ w.walk-by-numbers.ensures x.take.ensures t.tell-answer.ensures
 
-pub gorvisclen-take-chunk-spec : {M : Type 1} → statement M
-gorvisclen-take-chunk-spec =
+pub gorvisclen_take_chunk_spec : {M : Type 1} → statement M
+gorvisclen_take_chunk_spec =
     tie.close
     (tie.spec
     (λ c κs. search rules)

@@ -7,22 +7,22 @@ use Rattle.tlv_write.proofs.put_data_object.Tie as tie
 returns : tie.Need-returns
 returns c = too_long _ _ _ _ (omega (arith, c.if1.true))
 
-returns-2 : tie.Need-returns-2
-returns-2 c =
+returns_2 : tie.Need-returns-2
+returns_2 c =
     let l = c.before in
     let t = l.before in
     no_room _ _ _ _ (omega (arith, t.before.if1.false))
     t.tag-size.ensures.0 l.len-size.ensures.0 (omega (arith, c.if2.true))
 
-returns-3 : tie.Need-returns-3
-returns-3 c =
+returns_3 : tie.Need-returns-3
+returns_3 c =
     let l = c.before.before in
     let t = l.before in
     no_room _ _ _ _ (omega (arith, t.before.if1.false))
     t.tag-size.ensures.0 l.len-size.ensures.0 (omega (arith, c.if3.true))
 
-returns-4 : tie.Need-returns-4
-returns-4 c =
+returns_4 : tie.Need-returns-4
+returns_4 c =
     let i = c.before.before.before.before in
     let l = i.before.before in
     let t = l.before in
@@ -30,8 +30,8 @@ returns-4 c =
     t.tag-size.ensures.0 l.len-size.ensures.0 _
     (omega (arith, i.if3.false, i.before.if2.false)) c.before.before.write.ensures
 
-pub put-data-object-spec : {M : Type 1} → statement M
-put-data-object-spec =
+pub put_data_object_spec : {M : Type 1} → statement M
+put_data_object_spec =
     tie.close
     (tie.spec
     returns
@@ -39,9 +39,9 @@ put-data-object-spec =
     (λ c κs. search rules)
     (λ c. search rules)
     (λ c. search rules)
-    returns-2
+    returns_2
     (λ c. search rules)
-    returns-3
+    returns_3
     (λ c κs. search rules)
     (λ c. search rules)
-    returns-4)
+    returns_4)

@@ -2,12 +2,12 @@ use borrow.Author.Rules.{rules}
 use native.Mathlib.Omega.{arith}
 use lib.ListN.{length-append}
 use Rattle.basis.proofs.Over.{lent, next}
-use Rattle.tlv_write.specs.Written.{objectBytes}
+use Rattle.tlv_write.specs.Written.{object_bytes}
 use Rattle.tlv_write.proofs.write.Statement.{statement}
 use Rattle.tlv_write.proofs.write.Tie as tie
 
 returns : tie.Need-returns
-unfolding objectBytes
+unfolding object_bytes
 returns c =
     let v = c.before.before in
     let n = v.before.before in

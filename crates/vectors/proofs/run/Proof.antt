@@ -5,18 +5,18 @@ use lib.ListN.{length}
 use Rattle.vectors.proofs.run.Statement.{statement}
 use Rattle.vectors.proofs.run.Tie as tie
 
-abbrev invariant-loop : tie.invariant-loop
-invariant-loop file at₀ at = Unit {0}
+abbrev invariant_loop : tie.invariant-loop
+invariant_loop file at₀ at = Unit {0}
 
-abbrev decreases-loop : tie.decreases-loop
-decreases-loop file at₀ at = length file - at
+abbrev decreases_loop : tie.decreases-loop
+decreases_loop file at₀ at = length file - at
 
 pub run_spec : {M : Type 1} → statement M
 run_spec =
     tie.close
     (tie.spec
-    invariant-loop
-    decreases-loop
+    invariant_loop
+    decreases_loop
     (λ c. search rules)
     (λ c κs. search rules)
     (λ c. search rules)

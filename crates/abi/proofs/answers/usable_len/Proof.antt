@@ -6,10 +6,10 @@ use Rattle.abi.proofs.answers.usable_len.Tie as tie
 returns : tie.Need-returns
 returns c = let a = c.before.args in rw (lt-ltb a.lent a.needed (omega (arith, c.if1.true)))
 
-returns-2 : tie.Need-returns-2
-returns-2 c = let a = c.before.args in rw (le-ltb a.lent a.needed (omega (arith, c.if1.false)))
+returns_2 : tie.Need-returns-2
+returns_2 c = let a = c.before.args in rw (le-ltb a.lent a.needed (omega (arith, c.if1.false)))
 
-pub usable-len-spec : {M : Type 1} → statement M
-usable-len-spec = tie.close (tie.spec
+pub usable_len_spec : {M : Type 1} → statement M
+usable_len_spec = tie.close (tie.spec
     returns
-    returns-2)
+    returns_2)

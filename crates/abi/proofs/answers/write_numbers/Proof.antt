@@ -5,50 +5,50 @@ use mathlib.Core.List.{◌++◌}
 use Prim.Native.Nat.{◌-◌, ◌≤◌}
 use native.Mathlib.Omega.{arith}
 use lib.ListN.{length, take, drop, length-set}
-use Rattle.basis.proofs.Over.{copied, copy-next}
-use Rattle.abi.proofs.AnswerLaws.{too-short-written, row_written}
+use Rattle.basis.proofs.Over.{copied, copy_next}
+use Rattle.abi.proofs.AnswerLaws.{too_short_written, row_written}
 use Rattle.abi.proofs.answers.write_numbers.Statement.{statement}
 use Rattle.abi.proofs.answers.write_numbers.Tie as tie
 
-abbrev invariant-loop : tie.invariant-loop
-invariant-loop numbers out₀ i₀ out i = (out ≡ take i numbers ++ drop i out₀) × (i ≤ length numbers) × (length out ≡ length out₀)
+abbrev invariant_loop : tie.invariant-loop
+invariant_loop numbers out₀ i₀ out i = (out ≡ take i numbers ++ drop i out₀) × (i ≤ length numbers) × (length out ≡ length out₀)
 
-abbrev decreases-loop : tie.decreases-loop
-decreases-loop numbers out₀ i₀ out i = length numbers - i
+abbrev decreases_loop : tie.decreases-loop
+decreases_loop numbers out₀ i₀ out i = length numbers - i
 
-returns : tie.Need-returns invariant-loop decreases-loop
-returns c = too-short-written _ _ _ c.if1.true
+returns : tie.Need-returns invariant_loop decreases_loop
+returns c = too_short_written _ _ _ c.if1.true
 
-loop-holds : tie.Need-loop-init invariant-loop decreases-loop
-loop-holds c = (refl, omega arith, refl)
+loop_holds : tie.Need-loop-init invariant_loop decreases_loop
+loop_holds c = (refl, omega arith, refl)
 
-loop-again : tie.Need-loop-preserved invariant-loop decreases-loop
-loop-again c =
+loop_again : tie.Need-loop-preserved invariant_loop decreases_loop
+loop_again c =
     let l = c.before.before.loop in
     let a = c.before.before.before.before.args in
-    (rw l.invariant.0 (copy-next a.numbers.now a.out.now l.i (omega arith) (omega arith)), omega arith, simp length-set (omega arith))
+    (rw l.invariant.0 (copy_next a.numbers.now a.out.now l.i (omega arith) (omega arith)), omega arith, simp length-set (omega arith))
 
-returns-2 : tie.Need-returns-2 invariant-loop decreases-loop
-returns-2 c =
+returns_2 : tie.Need-returns-2 invariant_loop decreases_loop
+returns_2 c =
     let l = c.before.loop in
     let a = c.before.before.before.args in
     let done : l.i ≡ length a.numbers.now = omega arith in
     row_written _ _ _ _ (omega arith) (rw done at l.invariant.0 ∙ copied a.numbers.now a.out.now)
 
-pub write-numbers-spec : {M : Type 1} → statement M
-write-numbers-spec =
+pub write_numbers_spec : {M : Type 1} → statement M
+write_numbers_spec =
     tie.close
     (tie.spec
-    invariant-loop
-    decreases-loop
+    invariant_loop
+    decreases_loop
     returns
-    loop-holds
+    loop_holds
     (λ c. search rules)
     (λ c. search rules)
     (λ c. search rules)
     (λ c. search rules)
     (λ c. omega arith)
     (λ c. omega arith)
-    loop-again
+    loop_again
     (λ c. omega arith)
-    returns-2)
+    returns_2)

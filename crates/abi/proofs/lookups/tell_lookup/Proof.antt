@@ -5,14 +5,14 @@ use Rattle.abi.proofs.lookups.tell_lookup.Tie as tie
 returns : tie.Need-returns
 returns c = let t = c.before.before in rw t.before.before.before.before.found.given.1 t.tell-row.ensures
 
-returns-2 : tie.Need-returns-2
-returns-2 c = let t = c.before.before in rw t.before.before.before.before.found2.given.1 t.tell-row2.ensures
+returns_2 : tie.Need-returns-2
+returns_2 c = let t = c.before.before in rw t.before.before.before.before.found2.given.1 t.tell-row2.ensures
 
-returns-3 : tie.Need-returns-3
-returns-3 c = let t = c.before.before in rw t.before.before.before.before.found3.given.1 t.tell-row3.ensures
+returns_3 : tie.Need-returns-3
+returns_3 c = let t = c.before.before in rw t.before.before.before.before.found3.given.1 t.tell-row3.ensures
 
-pub tell-lookup-spec : {M : Type 1} → statement M
-tell-lookup-spec =
+pub tell_lookup_spec : {M : Type 1} → statement M
+tell_lookup_spec =
     tie.close
     (tie.spec
     (λ c. search rules)
@@ -27,6 +27,6 @@ tell-lookup-spec =
     (λ c. search rules)
     returns
     (λ c. search rules)
-    returns-2
+    returns_2
     (λ c. search rules)
-    returns-3)
+    returns_3)

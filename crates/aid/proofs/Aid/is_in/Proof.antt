@@ -9,8 +9,8 @@ returns c =
     by_number c.before.before.before.args.self _ _ _ (c.before.number.ensures ∙ c.before.before.category.ensures)
     c.number2.ensures
 
-pub is-in-spec : {M : Type 1} → statement M
-is-in-spec =
+pub is_in_spec : {M : Type 1} → statement M
+is_in_spec =
     tie.close
     (tie.spec
     (λ c κs. search rules)

@@ -5,14 +5,14 @@ use Rattle.builder.proofs.CommandBuilder.force_extended.Tie as tie
 returns : tie.Need-returns
 returns c = rw c.enum_told.given.1
 
-returns-2 : tie.Need-returns-2
-returns-2 c = rw c.before.enum-told2.given.1 c.forced.ensures
+returns_2 : tie.Need-returns-2
+returns_2 c = rw c.before.enum-told2.given.1 c.forced.ensures
 
-returns-3 : tie.Need-returns-3
-returns-3 c = rw c.before.enum-told3.given.1 c.forced2.ensures
+returns_3 : tie.Need-returns-3
+returns_3 c = rw c.before.enum-told3.given.1 c.forced2.ensures
 
-pub force-extended-spec : {M : Type 1} → statement M
-force-extended-spec =
+pub force_extended_spec : {M : Type 1} → statement M
+force_extended_spec =
     tie.close
     (tie.spec
     (λ c. search rules)
@@ -21,5 +21,5 @@ force-extended-spec =
     (λ c. search rules)
     (λ c κs. search rules)
     returns
-    returns-2
-    returns-3)
+    returns_2
+    returns_3)

@@ -8,8 +8,8 @@ returns c =
     let le = c.lowered-len.ensures in
     λ i. record { class = b.class; instruction = b.instruction; p1 = b.p1; p2 = b.p2; le = le i; mode = b.mode }
 
-pub lowered-spec : {M : Type 1} → statement M
-lowered-spec =
+pub lowered_spec : {M : Type 1} → statement M
+lowered_spec =
     tie.close
     (tie.spec
     (λ c κs. search rules)

@@ -4,8 +4,8 @@ use native.Mathlib.Omega.{arith}
 use lib.ListN.{length}
 use mathlib.Core.Path.{sym, ap, ◌∙◌}
 use borrow.Author.Tests.{lt-ltb, le-ltb}
-use Rattle.class.specs.Class.{asReply}
-use Rattle.builder.specs.Builder.{newOf}
+use Rattle.class.specs.Class.{as_reply}
+use Rattle.builder.specs.Builder.{new_of}
 use Rattle.builder.proofs.CommandBuilder.new.Statement.{statement}
 use Rattle.builder.proofs.CommandBuilder.new.Tie as tie
 
@@ -14,20 +14,20 @@ abbrev n : tie.After-class → ℕ
 n c = length c.before.before.before.before.args.«data».now
 
 returns : tie.Need-returns
-unfolding newOf
+unfolding new_of
 returns c =
     let k = c.before.before in
-    rw (sym k.before.before.from_byte.ensures ∙ ap asReply k.class.given.1, lt-ltb 65535 (n k) (omega (arith, c.if1.true)))
+    rw (sym k.before.before.from_byte.ensures ∙ ap as_reply k.class.given.1, lt-ltb 65535 (n k) (omega (arith, c.if1.true)))
 
-returns-2 : tie.Need-returns-2
-unfolding newOf
-returns-2 c = rw (sym c.before.before.before.from_byte.ensures ∙ ap asReply c.before.k.given.1)
+returns_2 : tie.Need-returns-2
+unfolding new_of
+returns_2 c = rw (sym c.before.before.before.from_byte.ensures ∙ ap as_reply c.before.k.given.1)
 
-returns-3 : tie.Need-returns-3
-unfolding newOf
-returns-3 c =
+returns_3 : tie.Need-returns-3
+unfolding new_of
+returns_3 c =
     let k = c.before.before in
-    rw (sym k.before.before.from_byte.ensures ∙ ap asReply k.class.given.1, le-ltb 65535 (n k) (omega (arith, c.if1.false)))
+    rw (sym k.before.before.from_byte.ensures ∙ ap as_reply k.class.given.1, le-ltb 65535 (n k) (omega (arith, c.if1.false)))
 
 pub new_spec : {M : Type 1} → statement M
 new_spec =
@@ -37,5 +37,5 @@ new_spec =
     (λ c. search rules)
     (λ c. search rules)
     returns
-    returns-2
-    returns-3)
+    returns_2
+    returns_3)

@@ -4,10 +4,10 @@ use Prim.Native.Nat.{ℕ, ◌+◌}
 use mathlib.Core.Path.{◌≡◌, sym, ap, ◌∙◌}
 use lib.ListN.{length}
 use Rattle.basis.specs.Reply.{ok}
-use Rattle.builder.specs.Bytes.{lcLen, leLen, requiredLen}
+use Rattle.builder.specs.Bytes.{lc_len, le_len, required_len}
 use Rattle.builder.specs.declared.CommandBuilder.{CommandBuilder}
-use Rattle.builder.proofs.Lengths.{lengths-few, required-is}
-use Rattle.builder.proofs.Data.{too_many, few-enough}
+use Rattle.builder.proofs.Lengths.{lengths_few, required_is}
+use Rattle.builder.proofs.Data.{too_many, few_enough}
 use Rattle.builder.proofs.CommandBuilder.required_len.Statement.{statement}
 use Rattle.builder.proofs.CommandBuilder.required_len.Tie as tie
 
@@ -18,33 +18,33 @@ b c = c.before.before.before.args.self
 abbrev n : tie.After-sizes → ℕ
 n c = length c.before.before.before.args.«data».now
 
-lc-is : (c : tie.After-sizes) → c.sizes.result.lc ≡ lcLen (b c) (n c)
-lc-is c = ap (λ z. z.lc) c.sizes.ensures
+lc_is : (c : tie.After-sizes) → c.sizes.result.lc ≡ lc_len (b c) (n c)
+lc_is c = ap (λ z. z.lc) c.sizes.ensures
 
-le_is : (c : tie.After-sizes) → c.sizes.result.le ≡ leLen (b c) (n c)
+le_is : (c : tie.After-sizes) → c.sizes.result.le ≡ le_len (b c) (n c)
 le_is c = ap (λ z. z.le) c.sizes.ensures
 
 returns : tie.Need-returns
 returns c = sym (too_many _ _ c.if1.true)
 
 -- the sum is the length required
-sum_is : (c : tie.After-sizes) → 4 + c.sizes.result.lc + n c + c.sizes.result.le ≡ requiredLen (b c) (n c)
-sum_is c = omega (arith, lc-is c, le_is c, required-is (b c) (n c))
+sum_is : (c : tie.After-sizes) → 4 + c.sizes.result.lc + n c + c.sizes.result.le ≡ required_len (b c) (n c)
+sum_is c = omega (arith, lc_is c, le_is c, required_is (b c) (n c))
 
-returns-2 : tie.Need-returns-2
-returns-2 c =
+returns_2 : tie.Need-returns-2
+returns_2 c =
     let z = c.before.before in
-    ap ok (sum_is z) ∙ sym (few-enough (n z) _ z.before.if1.false)
+    ap ok (sum_is z) ∙ sym (few_enough (n z) _ z.before.if1.false)
 
-pub required-len-spec : {M : Type 1} → statement M
-required-len-spec =
+pub required_len_spec : {M : Type 1} → statement M
+required_len_spec =
     tie.close
     (tie.spec
     returns
     (λ c κs. search rules)
-    (λ c. omega (arith, lc-is c.before, lengths-few (b c.before) (n c.before)))
-    (λ c. omega (arith, lc-is c.before, lengths-few (b c.before) (n c.before)))
+    (λ c. omega (arith, lc_is c.before, lengths_few (b c.before) (n c.before)))
+    (λ c. omega (arith, lc_is c.before, lengths_few (b c.before) (n c.before)))
     (λ c.
     let z = c.before.before in
-    omega (arith, lc-is z, le_is z, lengths-few (b z) (n z)))
-    returns-2)
+    omega (arith, lc_is z, le_is z, lengths_few (b z) (n z)))
+    returns_2)

@@ -9,26 +9,26 @@ returns : tie.Need-returns
 unfolding extended
 returns c = rw (lt-ltb 255 c.before.args.n (omega (arith, c.if1.true)))
 
-returns-2 : tie.Need-returns-2
+returns_2 : tie.Need-returns-2
 unfolding extended
-returns-2 c =
+returns_2 c =
     let i = c.before in
     let a = i.before.args in
     rw (le-ltb 255 a.n (omega (arith, i.if1.false)), lt-ltb 256 a.e (omega (arith, c.if2.true)))
 
-returns-3 : tie.Need-returns-3
+returns_3 : tie.Need-returns-3
 unfolding extended
-returns-3 c =
+returns_3 c =
     let j = c.before in
     let i = j.before in
     let a = i.before.args in
     rw (le-ltb 255 a.n (omega (arith, i.if1.false)), le-ltb 256 a.e (omega (arith, j.if2.false))) c.is-forced.ensures
 
-pub extended-spec : {M : Type 1} → statement M
-extended-spec =
+pub extended_spec : {M : Type 1} → statement M
+extended_spec =
     tie.close
     (tie.spec
     returns
-    returns-2
+    returns_2
     (λ c κs. search rules)
-    returns-3)
+    returns_3)

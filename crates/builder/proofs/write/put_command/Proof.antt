@@ -2,9 +2,9 @@ use borrow.Author.Rules.{rules}
 use native.Mathlib.Omega.{arith}
 use mathlib.Core.Path.{refl}
 use lib.ListN.{length, length-append}
-use Rattle.basis.proofs.Over.{between-over}
+use Rattle.basis.proofs.Over.{between_over}
 use Rattle.builder.specs.Sizes.{field}
-use Rattle.builder.proofs.Lengths.{length-field}
+use Rattle.builder.proofs.Lengths.{length_field_lem}
 use Rattle.builder.proofs.write.put_command.Statement.{statement}
 use Rattle.builder.proofs.write.put_command.Tie as tie
 
@@ -15,15 +15,15 @@ returns c =
     let at-header = at-le.before.before.before.before.before in
     let s = at-header.before.before.before.before in
     let d = s.args.«data».now in
-    let lc = length-field s.args.sizes.lc (length d) s.requires.lc-few in
-    let le = length-field s.args.sizes.le s.args.sizes.written s.requires.le-few in
+    let lc = length_field_lem s.args.sizes.lc (length d) s.requires.lc_few in
+    let le = length_field_lem s.args.sizes.le s.args.sizes.written s.requires.le_few in
     let data-end = length-append (field s.args.sizes.lc (length d)) d in
     let room = s.requires.room in
-    between-over _ _ _ _ _ _ _ _ _ _ at-header.put-header.ensures refl (omega arith) (omega arith) at-le.put-field.ensures refl
+    between_over _ _ _ _ _ _ _ _ _ _ at-header.put-header.ensures refl (omega arith) (omega arith) at-le.put-field.ensures refl
     at-data.put-data.ensures
 
-pub put-command-spec : {M : Type 1} → statement M
-put-command-spec =
+pub put_command_spec : {M : Type 1} → statement M
+put_command_spec =
     tie.close
     (tie.spec
     (λ c κs. search rules)

@@ -2,9 +2,9 @@ use borrow.Author.Rules.{rules}
 use native.Mathlib.Omega.{arith}
 use mathlib.Core.Path.{sym, ◌∙◌}
 use lib.ListN.{length}
-use Rattle.basis.proofs.Over.{copied, next-over}
-use Rattle.builder.specs.Sizes.{field as lengthField}
-use Rattle.builder.proofs.Lengths.{length-field}
+use Rattle.basis.proofs.Over.{copied, next_over}
+use Rattle.builder.specs.Sizes.{field as length_field}
+use Rattle.builder.proofs.Lengths.{length_field_lem}
 use Rattle.builder.proofs.write.put_data.Statement.{statement}
 use Rattle.builder.proofs.write.put_data.Tie as tie
 
@@ -13,12 +13,12 @@ returns c =
     let field = c.before.before.before.before.before.before in
     let s = field.before.before.before.before in
     let d = s.args.«data».now in
-    let lc = length-field s.args.lc (length d) s.requires.0 in
-    next-over _ _ _ (lengthField s.args.lc (length d)) d _ field.put-field.ensures (sym lc) (omega (arith, s.requires.1))
+    let lc = length_field_lem s.args.lc (length d) s.requires.0 in
+    next_over _ _ _ (length_field s.args.lc (length d)) d _ field.put-field.ensures (sym lc) (omega (arith, s.requires.1))
     (c.before.before.copy.ensures.1 ∙ copied _ _)
 
-pub put-data-spec : {M : Type 1} → statement M
-put-data-spec =
+pub put_data_spec : {M : Type 1} → statement M
+put_data_spec =
     tie.close
     (tie.spec
     (λ c κs. search rules)

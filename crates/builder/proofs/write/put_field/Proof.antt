@@ -14,36 +14,36 @@ returns : tie.Need-returns
 unfolding over field
 returns c = let z : c.before.args.size ≡ 0 = omega (arith, c.if1.true) in rw z
 
-returns-2 : tie.Need-returns-2
+returns_2 : tie.Need-returns-2
 unfolding field be
-returns-2 c = rw c.if2.true (stored (_ ∷ []) _ (omega arith))
+returns_2 c = rw c.if2.true (stored (_ ∷ []) _ (omega arith))
 
-returns-3 : tie.Need-returns-3
+returns_3 : tie.Need-returns-3
 unfolding field be
-returns-3 c = rw c.if3.true (stored (_ ∷ _ ∷ []) _ (omega arith))
+returns_3 c = rw c.if3.true (stored (_ ∷ _ ∷ []) _ (omega arith))
 
-returns-4 : tie.Need-returns-4
+returns_4 : tie.Need-returns-4
 unfolding field be
-returns-4 c =
+returns_4 c =
     let z : c.before.before.before.args.size ≡ 3 = omega arith in
     rw z (stored (_ ∷ _ ∷ _ ∷ []) _ (omega arith))
 
-pub put-field-spec : {M : Type 1} → statement M
-put-field-spec =
+pub put_field_spec : {M : Type 1} → statement M
+put_field_spec =
     tie.close
     (tie.spec
     (λ c. search rules)
     returns
     (λ c. search rules)
     (λ c. search rules)
-    returns-2
+    returns_2
     (λ c. search rules)
     (λ c. search rules)
     (λ c. simp length-set (omega arith))
     (λ c. search rules)
-    returns-3
+    returns_3
     (λ c. search rules)
     (λ c. simp length-set (omega arith))
     (λ c. simp length-set (omega arith))
     (λ c. search rules)
-    returns-4)
+    returns_4)

@@ -9,8 +9,8 @@ use Rattle.builder.proofs.write.put_header.Tie as tie
 returns : tie.Need-returns
 returns c = rw c.into-inner.ensures (stored (header c.before.before.before.args.builder) _ (omega arith))
 
-pub put-header-spec : {M : Type 1} → statement M
-put-header-spec =
+pub put_header_spec : {M : Type 1} → statement M
+put_header_spec =
     tie.close
     (tie.spec
     (λ c κs. search rules)

@@ -1,17 +1,17 @@
 use borrow.Author.Rules.{rules}
 use mathlib.Core.List.{[], ◌∷◌}
 use Rattle.basis.proofs.Over.{stored}
-use Rattle.abi.proofs.SerializedLaws.{write-refused, done}
+use Rattle.abi.proofs.SerializedLaws.{write_refused, done}
 use Rattle.builder_abi.proofs.write.write.Statement.{statement}
 use Rattle.builder_abi.proofs.write.write.Tie as tie
 
 returns : tie.Need-returns
 returns c =
     let w = c.before.before.before.before.before in
-    write-refused _ _ _ _ _ (search rules) _ _ w.serialize-into.ensures _ c.before.k.given.1
+    write_refused _ _ _ _ _ (search rules) _ _ w.serialize-into.ensures _ c.before.k.given.1
 
-returns-2 : tie.Need-returns-2
-returns-2 c =
+returns_2 : tie.Need-returns-2
+returns_2 c =
     let w = c.before.before.before.before.before in
     done _ _ _ _ _ (search rules) _ _ w.serialize-into.ensures _ _ c.before.n.given.1 (stored (_ ∷ []) _ (search rules))
 
@@ -27,4 +27,4 @@ write_spec =
     returns
     (λ c. search rules)
     (λ c. search rules)
-    returns-2)
+    returns_2)

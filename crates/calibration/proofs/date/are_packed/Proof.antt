@@ -3,51 +3,51 @@ use mathlib.Core.Path.{◌≡◌, sym, ◌∙◌}
 use mathlib.Core.Bool.{true, false}
 use lib.ListN.{get_or}
 use borrow.Author.Tests.{not-true, not-false}
-use Rattle.calibration.specs.Date.{isDecimal, arePacked}
+use Rattle.calibration.specs.Date.{is_decimal, are_packed}
 use Rattle.calibration.proofs.date.are_packed.Statement.{statement}
 use Rattle.calibration.proofs.date.are_packed.Tie as tie
 
 returns : tie.Need-returns
-unfolding arePacked
+unfolding are_packed
 returns c =
     let b = c.before.before.before.before.args.bytes.now in
-    let w : isDecimal (get_or b 0 0) ≡ false = sym c.before.is-decimal.ensures ∙ not-true _ c.if1.true in
+    let w : is_decimal (get_or b 0 0) ≡ false = sym c.before.is-decimal.ensures ∙ not-true _ c.if1.true in
     rw w
 
-returns-2 : tie.Need-returns-2
-unfolding arePacked
-returns-2 c =
+returns_2 : tie.Need-returns-2
+unfolding are_packed
+returns_2 c =
     let h = c.before.before.before in
     let b = h.before.before.before.before.args.bytes.now in
-    let w : isDecimal (get_or b 0 0) ≡ true = sym h.before.is-decimal.ensures ∙ not-false _ h.if1.false in
-    let x : isDecimal (get_or b 1 0) ≡ false = sym c.before.is-decimal2.ensures ∙ not-true _ c.if2.true in
+    let w : is_decimal (get_or b 0 0) ≡ true = sym h.before.is-decimal.ensures ∙ not-false _ h.if1.false in
+    let x : is_decimal (get_or b 1 0) ≡ false = sym c.before.is-decimal2.ensures ∙ not-true _ c.if2.true in
     rw (w, x)
 
-returns-3 : tie.Need-returns-3
-unfolding arePacked
-returns-3 c =
+returns_3 : tie.Need-returns-3
+unfolding are_packed
+returns_3 c =
     let g = c.before.before.before in
     let h = g.before.before.before in
     let b = h.before.before.before.before.args.bytes.now in
-    let w : isDecimal (get_or b 0 0) ≡ true = sym h.before.is-decimal.ensures ∙ not-false _ h.if1.false in
-    let x : isDecimal (get_or b 1 0) ≡ true = sym g.before.is-decimal2.ensures ∙ not-false _ g.if2.false in
-    let y : isDecimal (get_or b 2 0) ≡ false = sym c.before.is-decimal3.ensures ∙ not-true _ c.if3.true in
+    let w : is_decimal (get_or b 0 0) ≡ true = sym h.before.is-decimal.ensures ∙ not-false _ h.if1.false in
+    let x : is_decimal (get_or b 1 0) ≡ true = sym g.before.is-decimal2.ensures ∙ not-false _ g.if2.false in
+    let y : is_decimal (get_or b 2 0) ≡ false = sym c.before.is-decimal3.ensures ∙ not-true _ c.if3.true in
     rw (w, x, y)
 
-returns-4 : tie.Need-returns-4
-unfolding arePacked
-returns-4 c =
+returns_4 : tie.Need-returns-4
+unfolding are_packed
+returns_4 c =
     let f = c.before.before in
     let g = f.before.before.before in
     let h = g.before.before.before in
     let b = h.before.before.before.before.args.bytes.now in
-    let w : isDecimal (get_or b 0 0) ≡ true = sym h.before.is-decimal.ensures ∙ not-false _ h.if1.false in
-    let x : isDecimal (get_or b 1 0) ≡ true = sym g.before.is-decimal2.ensures ∙ not-false _ g.if2.false in
-    let y : isDecimal (get_or b 2 0) ≡ true = sym f.before.is-decimal3.ensures ∙ not-false _ f.if3.false in
+    let w : is_decimal (get_or b 0 0) ≡ true = sym h.before.is-decimal.ensures ∙ not-false _ h.if1.false in
+    let x : is_decimal (get_or b 1 0) ≡ true = sym g.before.is-decimal2.ensures ∙ not-false _ g.if2.false in
+    let y : is_decimal (get_or b 2 0) ≡ true = sym f.before.is-decimal3.ensures ∙ not-false _ f.if3.false in
     rw (w, x, y) c.is-decimal4.ensures
 
-pub are-packed-spec : {M : Type 1} → statement M
-are-packed-spec =
+pub are_packed_spec : {M : Type 1} → statement M
+are_packed_spec =
     tie.close
     (tie.spec
     (λ c. search rules)
@@ -55,10 +55,10 @@ are-packed-spec =
     returns
     (λ c. search rules)
     (λ c κs. search rules)
-    returns-2
+    returns_2
     (λ c. search rules)
     (λ c κs. search rules)
-    returns-3
+    returns_3
     (λ c. search rules)
     (λ c κs. search rules)
-    returns-4)
+    returns_4)

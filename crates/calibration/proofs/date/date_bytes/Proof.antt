@@ -1,17 +1,17 @@
 use borrow.Author.Rules.{rules}
-use Rattle.calibration.specs.Date.{dateBytes}
-use Rattle.calibration.proofs.Calendar.{Real, real-says}
-use Rattle.calibration.proofs.Digits.{century-below, month-below, day-below}
+use Rattle.calibration.specs.Date.{date_bytes}
+use Rattle.calibration.proofs.Calendar.{Real, real_says}
+use Rattle.calibration.proofs.Digits.{century_below, month_below, day_below}
 use Rattle.calibration.proofs.date.date_bytes.Statement.{statement}
 use Rattle.calibration.proofs.date.date_bytes.Tie as tie
 
 -- the date that was handed in is real
 module _ (s : tie.Start) where
   real : Real s.args.date
-  real = real-says s.args.date s.requires
+  real = real_says s.args.date s.requires
 
 returns : tie.Need-returns
-unfolding dateBytes
+unfolding date_bytes
 returns c =
     let m = c.before in
     let y = m.before in
@@ -22,12 +22,12 @@ returns c =
       y.before.before.packed.ensures,
     )
 
-pub date-bytes-spec : {M : Type 1} → statement M
-date-bytes-spec =
+pub date_bytes_spec : {M : Type 1} → statement M
+date_bytes_spec =
     tie.close
     (tie.spec
-    (λ c κs. let s = c.before in century-below s.args.date (real s))
+    (λ c κs. let s = c.before in century_below s.args.date (real s))
     (λ c κs. search rules)
-    (λ c κs. let s = c.before.before.before.before in month-below s.args.date (real s))
-    (λ c κs. let s = c.before.before.before.before.before in day-below s.args.date (real s))
+    (λ c κs. let s = c.before.before.before.before in month_below s.args.date (real s))
+    (λ c κs. let s = c.before.before.before.before.before in day_below s.args.date (real s))
     returns)

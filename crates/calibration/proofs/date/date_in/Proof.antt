@@ -1,10 +1,10 @@
 use borrow.Author.Rules.{rules}
-use Rattle.calibration.specs.Date.{dateIn}
+use Rattle.calibration.specs.Date.{date_in}
 use Rattle.calibration.proofs.date.date_in.Statement.{statement}
 use Rattle.calibration.proofs.date.date_in.Tie as tie
 
 returns : tie.Need-returns
-unfolding dateIn
+unfolding date_in
 returns c =
     let m = c.before.before in
     let y = m.before.before in
@@ -15,8 +15,8 @@ returns c =
       y.before.before.two_digits.ensures.0,
     )
 
-pub date-in-spec : {M : Type 1} → statement M
-date-in-spec =
+pub date_in_spec : {M : Type 1} → statement M
+date_in_spec =
     tie.close
     (tie.spec
     (λ c. search rules)

@@ -3,24 +3,24 @@ use mathlib.Core.Path.{ap}
 use native.Mathlib.Omega.{arith}
 use borrow.Author.Tests.{le-leb, lt-leb}
 use lib.Dec.{leb}
-use Rattle.calibration.specs.Date.{isReal}
+use Rattle.calibration.specs.Date.{is_real}
 use Rattle.calibration.proofs.date.is_real.Statement.{statement}
 use Rattle.calibration.proofs.date.is_real.Tie as tie
 
 returns : tie.Need-returns
-unfolding isReal
+unfolding is_real
 returns c = rw (lt-leb 2000 c.before.before.args.date.year (omega (arith, c.if1.true)))
 
-returns-2 : tie.Need-returns-2
-unfolding isReal
-returns-2 c =
+returns_2 : tie.Need-returns-2
+unfolding is_real
+returns_2 c =
     let y = c.before.before in
     let d = y.before.before.args.date in
     rw (le-leb 2000 d.year (omega (arith, y.if1.false)), lt-leb d.year 2099 (omega (arith, c.if2.true)))
 
-returns-3 : tie.Need-returns-3
-unfolding isReal
-returns-3 c =
+returns_3 : tie.Need-returns-3
+unfolding is_real
+returns_3 c =
     let z = c.before.before in
     let y = z.before.before in
     let d = y.before.before.args.date in
@@ -30,9 +30,9 @@ returns-3 c =
       lt-leb 1 d.day (omega (arith, c.if3.true)),
     )
 
-returns-4 : tie.Need-returns-4
-unfolding isReal
-returns-4 c =
+returns_4 : tie.Need-returns-4
+unfolding is_real
+returns_4 c =
     let k = c.before.before in
     let z = k.before.before in
     let y = z.before.before in
@@ -43,12 +43,12 @@ returns-4 c =
       le-leb 1 d.day (omega (arith, k.if3.false)),
     ) (ap (leb d.day) c.before.days-in.ensures)
 
-pub is-real-spec : {M : Type 1} → statement M
-is-real-spec =
+pub is_real_spec : {M : Type 1} → statement M
+is_real_spec =
     tie.close
     (tie.spec
     returns
-    returns-2
-    returns-3
+    returns_2
+    returns_3
     (λ c κs. search rules)
-    returns-4)
+    returns_4)

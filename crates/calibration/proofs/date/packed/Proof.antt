@@ -8,5 +8,5 @@ returns : tie.Need-returns
 unfolding packed
 returns c = refl
 
-pub packed-spec : {M : Type 1} → statement M
-packed-spec = tie.close (tie.spec (λ c. search rules) (λ c. search rules) (λ c. search rules) returns)
+pub packed_spec : {M : Type 1} → statement M
+packed_spec = tie.close (tie.spec (λ c. search rules) (λ c. search rules) (λ c. search rules) returns)

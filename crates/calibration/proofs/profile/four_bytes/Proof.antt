@@ -1,6 +1,6 @@
 use borrow.Author.Rules.{rules}
 use native.Mathlib.Omega.{arith}
-use Rattle.calibration.proofs.Digits.{number-of-four}
+use Rattle.calibration.proofs.Digits.{number_of_four}
 use Rattle.calibration.proofs.profile.four_bytes.Statement.{statement}
 use Rattle.calibration.proofs.profile.four_bytes.Tie as tie
 
@@ -12,15 +12,15 @@ returns c =
     let s = x.before.before.before in
     omega (
       arith,
-      number-of-four s.args.bytes.now s.requires,
+      number_of_four s.args.bytes.now s.requires,
       c.byte-number4.ensures.0,
       z.byte-number3.ensures.0,
       y.byte-number2.ensures.0,
       x.byte-number.ensures.0,
     )
 
-pub four-bytes-spec : {M : Type 1} → statement M
-four-bytes-spec =
+pub four_bytes_spec : {M : Type 1} → statement M
+four_bytes_spec =
     tie.close
     (tie.spec
     (λ c. search rules)

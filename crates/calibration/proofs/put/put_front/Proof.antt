@@ -10,8 +10,8 @@ use Rattle.calibration.proofs.put.put_front.Tie as tie
 returns : tie.Need-returns
 returns c = stored (0xE1 ∷ (c.args.n + 14) ∷ 0xC1 ∷ c.args.n ∷ []) c.args.part.now (omega (arith, c.requires.1))
 
-pub put-front-spec : {M : Type 1} → statement M
-put-front-spec =
+pub put_front_spec : {M : Type 1} → statement M
+put_front_spec =
     tie.close
     (tie.spec
     (λ c. search rules)

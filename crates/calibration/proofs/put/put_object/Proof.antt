@@ -17,8 +17,8 @@ returns c =
     rw (size, four v size)
     (stored (c.args.tag ∷ 4 ∷ get_or v 0 0 ∷ get_or v 1 0 ∷ get_or v 2 0 ∷ get_or v 3 0 ∷ []) c.args.part.now (omega (arith, c.requires)))
 
-pub put-object-spec : {M : Type 1} → statement M
-put-object-spec =
+pub put_object_spec : {M : Type 1} → statement M
+put_object_spec =
     tie.close
     (tie.spec
     (λ c. search rules)

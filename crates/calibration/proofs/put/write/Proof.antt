@@ -5,12 +5,12 @@ use Prim.Native.Nat.{ℕ, ◌+◌}
 use native.Mathlib.Omega.{arith}
 use lib.ListN.{length, length-append}
 use Rattle.basis.specs.Number.{be}
-use Rattle.basis.specs.Over.{overAt}
-use Rattle.basis.proofs.Number.{length-be}
+use Rattle.basis.specs.Over.{over_at}
+use Rattle.basis.proofs.Number.{length_be}
 use Rattle.basis.proofs.Over.{lent, next, copied}
-use Rattle.calibration.specs.Date.{dateBytes}
+use Rattle.calibration.specs.Date.{date_bytes}
 use Rattle.calibration.specs.Profile.{Fields, fields, object}
-use Rattle.calibration.proofs.Written.{date-size, record-parts, value-known}
+use Rattle.calibration.proofs.Written.{date_size, record_parts, value_known}
 use Rattle.calibration.proofs.put.write.Statement.{statement}
 use Rattle.calibration.proofs.put.write.Tie as tie
 
@@ -30,7 +30,7 @@ returns c =
     let buffer = s.args.buffer.now in
     let front : List ℕ = 0xE1 ∷ (n + 14) ∷ 0xC1 ∷ n ∷ [] in
     let f : Fields = fields serial s.args.due s.args.capacity in
-    let due = object 0xC2 (dateBytes s.args.due) in
+    let due = object 0xC2 (date_bytes s.args.due) in
     let capacity = object 0xC3 (be 4 s.args.capacity) in
     let all =
     next at (at + 4 + n + 6) buffer _ ((front ++ serial) ++ due) capacity _
@@ -38,11 +38,11 @@ returns c =
     (next at (at + 4) buffer _ front serial _
     (lent buffer at front _ (omega (arith, s.requires.2)) h.put_front.ensures)
     (omega arith) (omega (arith, s.requires.2)) (v.copy.ensures.1 ∙ copied _ _))
-    (simp length-append (omega arith)) (omega (arith, s.requires.2, date-size f))
-    (value-known 0xC2 _ _ _ _ d.date-bytes.ensures o1.put-object.ensures))
-    (simp length-append (omega (arith, date-size f))) (omega (arith, s.requires.2, length-be 4 s.args.capacity))
-    (value-known 0xC3 _ _ _ _ k.capacity-bytes.ensures o2.put-object2.ensures) in
-    all ∙ sym (ap (λ (b : List ℕ). overAt at b buffer) (record-parts f))
+    (simp length-append (omega arith)) (omega (arith, s.requires.2, date_size f))
+    (value_known 0xC2 _ _ _ _ d.date-bytes.ensures o1.put-object.ensures))
+    (simp length-append (omega (arith, date_size f))) (omega (arith, s.requires.2, length_be 4 s.args.capacity))
+    (value_known 0xC3 _ _ _ _ k.capacity-bytes.ensures o2.put-object2.ensures) in
+    all ∙ sym (ap (λ (b : List ℕ). over_at at b buffer) (record_parts f))
 
 pub write_spec : {M : Type 1} → statement M
 write_spec =

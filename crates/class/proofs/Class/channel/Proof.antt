@@ -1,35 +1,35 @@
 use borrow.Author.Rules.{rules}
-use Rattle.basis.proofs.Reply.{matched-reply}
-use Rattle.class.specs.Range.{rangeAsNumber}
-use Rattle.class.specs.Channel.{channelOf}
-use Rattle.class.proofs.Ranges.{range-of-interindustry}
+use Rattle.basis.proofs.Reply.{matched_reply}
+use Rattle.class.specs.Range.{range_as_number}
+use Rattle.class.specs.Channel.{channel_of}
+use Rattle.class.proofs.Ranges.{range_of_interindustry}
 use Rattle.class.proofs.Class.channel.Statement.{statement}
 use Rattle.class.proofs.Class.channel.Tie as tie
 
 returns : tie.Need-returns
-unfolding channelOf
+unfolding channel_of
 returns c =
     let w = c.before.before.before in
-    rw (range-of-interindustry _ _ _ w.which.given.1 c.enum_told.given.1 _ w.before.before.range.ensures)
+    rw (range_of_interindustry _ _ _ w.which.given.1 c.enum_told.given.1 _ w.before.before.range.ensures)
 
-returns-2 : tie.Need-returns-2
-unfolding channelOf
-returns-2 c =
+returns_2 : tie.Need-returns-2
+unfolding channel_of
+returns_2 c =
     let w = c.before.before.before.before in
-    rw (range-of-interindustry _ _ _ w.which.given.1 c.before.enum-told2.given.1 _ w.before.before.range.ensures, c.further.ensures)
+    rw (range_of_interindustry _ _ _ w.which.given.1 c.before.enum-told2.given.1 _ w.before.before.range.ensures, c.further.ensures)
 
-returns-3 : tie.Need-returns-3
-unfolding channelOf
-returns-3 c =
+returns_3 : tie.Need-returns-3
+unfolding channel_of
+returns_3 c =
     let w = c.before.before.before in
-    rw (range-of-interindustry _ _ _ w.which.given.1 c.enum-told3.given.1 _ w.before.before.range.ensures)
+    rw (range_of_interindustry _ _ _ w.which.given.1 c.enum-told3.given.1 _ w.before.before.range.ensures)
 
-returns-4 : tie.Need-returns-4
-unfolding channelOf
-returns-4 c = rw (matched-reply rangeAsNumber c.before.before.range.ensures c.enum-told4.given.1)
+returns_4 : tie.Need-returns-4
+unfolding channel_of
+returns_4 c = rw (matched_reply range_as_number c.before.before.range.ensures c.enum-told4.given.1)
 
-pub channel-spec : {M : Type 1} → statement M
-channel-spec =
+pub channel_spec : {M : Type 1} → statement M
+channel_spec =
     tie.close
     (tie.spec
     (λ c κs. search rules)
@@ -40,6 +40,6 @@ channel-spec =
     (λ c. search rules)
     (λ c. search rules)
     returns
-    returns-2
-    returns-3
-    returns-4)
+    returns_2
+    returns_3
+    returns_4)

@@ -8,42 +8,42 @@ returns : tie.Need-returns
 unfolding body_of
 returns c = rw (eq-eqb _ _ c.before.if1.true) c.lengths.ensures
 
-returns-2 : tie.Need-returns-2
+returns_2 : tie.Need-returns-2
 unfolding body_of
-returns-2 c =
+returns_2 c =
     let i = c.before.before in
     let w = i.before in
     rw (ne_eqb _ _ w.before.before.if1.false, eq-eqb _ _ i.if2.true, ← w.byte-number.ensures.0, ← c.before.replace-zero.ensures)
     c.lengths2.ensures
 
-returns-3 : tie.Need-returns-3
+returns_3 : tie.Need-returns-3
 unfolding body_of
-returns-3 c =
+returns_3 c =
     let i = c.before.before in
     let w = i.before in
     rw (ne_eqb _ _ w.before.before.if1.false, ne_eqb _ _ i.if2.false, ← w.byte-number.ensures.0, ne_eqb _ _ c.before.if3.true)
     c.short_lengths.ensures
 
-returns-4 : tie.Need-returns-4
+returns_4 : tie.Need-returns-4
 unfolding body_of
-returns-4 c =
+returns_4 c =
     let j = c.before.before.before in
     let i = j.before in
     let w = i.before in
     rw (ne_eqb _ _ w.before.before.if1.false, ne_eqb _ _ i.if2.false, ← w.byte-number.ensures.0, eq-eqb _ _ j.if3.false)
     (rw c.before.enum_told.given.1 c.extended-lengths.ensures)
 
-returns-5 : tie.Need-returns-5
+returns_5 : tie.Need-returns-5
 unfolding body_of
-returns-5 c =
+returns_5 c =
     let j = c.before.before.before in
     let i = j.before in
     let w = i.before in
     rw (ne_eqb _ _ w.before.before.if1.false, ne_eqb _ _ i.if2.false, ← w.byte-number.ensures.0, eq-eqb _ _ j.if3.false)
     (rw c.before.enum-told2.given.1 c.extended-by-standard.ensures)
 
-pub parse-lengths-spec : {M : Type 1} → statement M
-parse-lengths-spec =
+pub parse_lengths_spec : {M : Type 1} → statement M
+parse_lengths_spec =
     tie.close
     (tie.spec
     (λ c κs. search rules)
@@ -52,12 +52,12 @@ parse-lengths-spec =
     (λ c κs. search rules)
     (λ c κs. search rules)
     (λ c κs. search rules)
-    returns-2
+    returns_2
     (λ c κs. search rules)
-    returns-3
+    returns_3
     (λ c. search rules)
     (λ c κs. search rules)
     (λ c. search rules)
     (λ c κs. search rules)
-    returns-4
-    returns-5)
+    returns_4
+    returns_5)

@@ -5,8 +5,8 @@ use Rattle.command.specs.declared.owned.Extending.TheVariants.{Refused}
 use Rattle.command.proofs.owned.refused_extension.Statement.{statement}
 use Rattle.command.proofs.owned.refused_extension.Tie as tie
 
-pub refused-extension-spec : {M : Type 1} → statement M
-refused-extension-spec =
+pub refused_extension_spec : {M : Type 1} → statement M
+refused_extension_spec =
     tie.close
     (tie.spec
     (λ c κs. search rules)

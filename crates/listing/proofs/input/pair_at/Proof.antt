@@ -8,8 +8,8 @@ use Rattle.listing.proofs.input.pair_at.Tie as tie
 returns : tie.Need-returns
 returns c = let a = c.before.before.before.args in ((omega arith) ∙ pair_is a.input.now a.at, omega arith)
 
-pub pair-at-spec : {M : Type 1} → statement M
-pair-at-spec =
+pub pair_at_spec : {M : Type 1} → statement M
+pair_at_spec =
     tie.close
     (tie.spec
     (λ c κs. search rules)

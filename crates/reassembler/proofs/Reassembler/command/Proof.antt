@@ -5,5 +5,5 @@ use Rattle.reassembler.proofs.Reassembler.command.Tie as tie
 returns : tie.Need-returns
 returns c = rw (c.before.held-len.ensures, c.extended.ensures)
 
-pub command-spec : {M : Type 1} → statement M
-command-spec = tie.close (tie.spec (λ c κs. search rules) (λ c κs. search rules) returns)
+pub command_spec : {M : Type 1} → statement M
+command_spec = tie.close (tie.spec (λ c κs. search rules) (λ c κs. search rules) returns)

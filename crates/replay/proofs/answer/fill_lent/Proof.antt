@@ -3,18 +3,18 @@ use Rattle.std.proofs.Common.{◌≡◌, ◌-◌, length, rules}
 use Rattle.replay.proofs.answer.fill_lent.Statement.{statement}
 use Rattle.replay.proofs.answer.fill_lent.Tie as tie
 
-abbrev invariant-loop : tie.invariant-loop
-invariant-loop to₀ i₀ to i = length to ≡ length to₀
+abbrev invariant_loop : tie.invariant-loop
+invariant_loop to₀ i₀ to i = length to ≡ length to₀
 
-abbrev decreases-loop : tie.decreases-loop
-decreases-loop to₀ i₀ to i = length to₀ - i
+abbrev decreases_loop : tie.decreases-loop
+decreases_loop to₀ i₀ to i = length to₀ - i
 
-pub fill-lent-spec : {M : Type 1} → statement M
-fill-lent-spec =
+pub fill_lent_spec : {M : Type 1} → statement M
+fill_lent_spec =
     tie.close
     (tie.spec
-    invariant-loop
-    decreases-loop
+    invariant_loop
+    decreases_loop
     (λ c. search rules)
     (λ c. search rules)
     (λ c. search rules)

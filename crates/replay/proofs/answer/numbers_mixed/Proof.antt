@@ -3,18 +3,18 @@ use Rattle.std.proofs.Common.{◌-◌, rules}
 use Rattle.replay.proofs.answer.numbers_mixed.Statement.{statement}
 use Rattle.replay.proofs.answer.numbers_mixed.Tie as tie
 
-abbrev invariant-loop : tie.invariant-loop
-invariant-loop before out sum₀ i₀ sum i = Unit {0}
+abbrev invariant_loop : tie.invariant-loop
+invariant_loop before out sum₀ i₀ sum i = Unit {0}
 
-abbrev decreases-loop : tie.decreases-loop
-decreases-loop before out sum₀ i₀ sum i = 16 - i
+abbrev decreases_loop : tie.decreases-loop
+decreases_loop before out sum₀ i₀ sum i = 16 - i
 
-pub numbers-mixed-spec : {M : Type 1} → statement M
-numbers-mixed-spec =
+pub numbers_mixed_spec : {M : Type 1} → statement M
+numbers_mixed_spec =
     tie.close
     (tie.spec
-    invariant-loop
-    decreases-loop
+    invariant_loop
+    decreases_loop
     (λ c. search rules)
     (λ c. search rules)
     (λ c. search rules)

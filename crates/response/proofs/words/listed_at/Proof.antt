@@ -9,5 +9,5 @@ returns : tie.Need-returns
 unfolding table listed_at
 returns c = refl
 
-pub listed-at-spec : {M : Type 1} → statement M
-listed-at-spec = tie.close (tie.spec (λ c. search rules) (λ c. search rules) returns)
+pub listed_at_spec : {M : Type 1} → statement M
+listed_at_spec = tie.close (tie.spec (λ c. search rules) (λ c. search rules) returns)

@@ -6,12 +6,12 @@ use mathlib.Core.List.{List}
 use mathlib.Core.Option.{none, some}
 use lib.ListN.{length, drop, length-drop}
 use Rattle.basis.specs.Reply.{ok, refused}
-use Rattle.basis.proofs.Reply.{all-is}
-use Rattle.basis.proofs.Over.{rest-is}
-use Rattle.splitter.specs.Step.{step_of, asReply}
+use Rattle.basis.proofs.Reply.{all_is}
+use Rattle.basis.proofs.Over.{rest_is}
+use Rattle.splitter.specs.Step.{step_of, as_reply}
 use Rattle.splitter.specs.Pieces.{place_in}
 use Rattle.splitter.specs.declared.step.ShouldSplit.{ShouldSplit}
-use Rattle.splitter.proofs.Inside.{Fewer, step_fewer, left-by-step}
+use Rattle.splitter.proofs.Inside.{Fewer, step_fewer, left_by_step}
 use Rattle.splitter.proofs.pieces.next_left.Statement.{statement}
 use Rattle.splitter.proofs.pieces.next_left.Tie as tie
 
@@ -21,13 +21,13 @@ StepAsked = tie.After-should-split
 
 -- the step of the definition is the one that was asked for
 step_is : (c : StepAsked) (x : ShouldSplit) → c.should-split.result ≡ x → let a = c.before.before.before.before.before.args in
-    step_of a.left.builder (length (drop (place_in a.left a.«data».now) a.«data».now)) a.left.available ≡ asReply x
+    step_of a.left.builder (length (drop (place_in a.left a.«data».now) a.«data».now)) a.left.available ≡ as_reply x
 step_is c x e =
     let p = c.before.before.before in
     let a = p.before.before.args in
     rw (← p.place.ensures)
-    (ap (λ (s : List ℕ). step_of a.left.builder (length s) a.left.available) (sym (rest-is p.place.result a.«data».now))
-    ∙ sym c.should-split.ensures ∙ ap asReply e)
+    (ap (λ (s : List ℕ). step_of a.left.builder (length s) a.left.available) (sym (rest_is p.place.result a.«data».now))
+    ∙ sym c.should-split.ensures ∙ ap as_reply e)
 
 -- the part that was split off is shorter than what is left
 shorter : (c : tie.After-split) → let a = c.before.before.before.before.before.before.before.args in
@@ -35,11 +35,11 @@ shorter : (c : tie.After-split) → let a = c.before.before.before.before.before
 shorter c =
     let a = c.before.before.before.before.before.before.before.args in
     let n = length (drop (place_in a.left a.«data».now) a.«data».now) in
-    all-is (Fewer n) (step_of a.left.builder n a.left.available) (some c.split.given.0.0)
+    all_is (Fewer n) (step_of a.left.builder n a.left.available) (some c.split.given.0.0)
     (step_fewer a.left.builder n a.left.available) (step_is c.before.before _ c.split.given.1)
 
-pieces-after-requires : tie.Need-pieces-after-requires
-pieces-after-requires c κs =
+pieces_after_requires : tie.Need-pieces-after-requires
+pieces_after_requires c κs =
     let s = c.before.before in
     let a = s.before.before.before.before.before.before.before.args in
     let p = s.before.before.before.before.before in
@@ -49,29 +49,29 @@ returns : tie.Need-returns
 returns c =
     let q = c.before.before.before in
     let a = q.before.before.before.before.before in
-    rw (left-by-step a.args.left a.args.«data».now (refused _) a.requires (step_is q _ c.before.k.given.1))
+    rw (left_by_step a.args.left a.args.«data».now (refused _) a.requires (step_is q _ c.before.k.given.1))
 
-returns-2 : tie.Need-returns-2
-returns-2 c =
+returns_2 : tie.Need-returns-2
+returns_2 c =
     let q = c.before.before in
     let p = q.before.before.before in
     let a = q.before.before.before.before.before in
-    rw (left-by-step a.args.left a.args.«data».now (ok none) a.requires (step_is q _ c.enum_told.given.1), ← p.place.ensures, rest-is)
+    rw (left_by_step a.args.left a.args.«data».now (ok none) a.requires (step_is q _ c.enum_told.given.1), ← p.place.ensures, rest_is)
 
-returns-3 : tie.Need-returns-3
-returns-3 c =
+returns_3 : tie.Need-returns-3
+returns_3 c =
     let s = c.before.before.before in
     let q = s.before.before in
     let p = q.before.before.before in
     let a = q.before.before.before.before.before in
     rw (
-      left-by-step a.args.left a.args.«data».now (ok (some _)) a.requires (step_is q _ s.split.given.1),
+      left_by_step a.args.left a.args.«data».now (ok (some _)) a.requires (step_is q _ s.split.given.1),
       ← p.place.ensures,
       c.pieces-after.ensures,
     )
 
-pub next-left-spec : {M : Type 1} → statement M
-next-left-spec =
+pub next_left_spec : {M : Type 1} → statement M
+next_left_spec =
     tie.close
     (tie.spec
     (λ c κs. search rules)
@@ -82,7 +82,7 @@ next-left-spec =
     (λ c. search rules)
     (λ c. search rules)
     (λ c. search rules)
-    pieces-after-requires
+    pieces_after_requires
     returns
-    returns-2
-    returns-3)
+    returns_2
+    returns_3)

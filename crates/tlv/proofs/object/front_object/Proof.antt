@@ -6,13 +6,13 @@ use mathlib.Core.Path.{◌≡◌, sym, ap, ◌∙◌}
 use mathlib.Core.List.{List}
 use lib.ListN.{length, drop, length-drop}
 use Rattle.basis.specs.Reply.{ok}
-use Rattle.basis.proofs.Reply.{all-is}
-use Rattle.basis.proofs.Over.{rest-is}
-use Rattle.tlv.specs.Tag.{Tag, tag_of, asReply as tag-reply}
-use Rattle.tlv.specs.Len.{Len, len_of, asReply as len-reply}
-use Rattle.tlv.specs.Object.{objectOf}
+use Rattle.basis.proofs.Reply.{all_is}
+use Rattle.basis.proofs.Over.{rest_is}
+use Rattle.tlv.specs.Tag.{Tag, tag_of, as_reply as tag_reply}
+use Rattle.tlv.specs.Len.{Len, len_of, as_reply as len_reply}
+use Rattle.tlv.specs.Object.{object_of}
 use Rattle.tlv.specs.declared.Reading.{Reading}
-use Rattle.tlv.proofs.Within.{Tagged, Sized, tag-within, len-within}
+use Rattle.tlv.proofs.Within.{Tagged, Sized, tag_within, len_within}
 use Rattle.tlv.proofs.object.front_object.Statement.{statement}
 use Rattle.tlv.proofs.object.front_object.Tie as tie
 
@@ -27,10 +27,10 @@ abbrev t : tie.After-tag → Tag
 t c = record { number = c.tag.given.0.0; size = c.tag.given.0.1.0 }
 
 tagged : (c : tie.After-tag) → tag_of (by c) (bytes c) ≡ ok (t c)
-tagged c = sym c.before.before.front-tag.ensures ∙ ap tag-reply c.tag.given.1
+tagged c = sym c.before.before.front-tag.ensures ∙ ap tag_reply c.tag.given.1
 
 within : (c : tie.After-tag) → Tagged (length (bytes c)) (t c)
-within c = all-is (Tagged (length (bytes c))) (tag_of (by c) (bytes c)) (t c) (tag-within (by c) (bytes c)) (tagged c)
+within c = all_is (Tagged (length (bytes c))) (tag_of (by c) (bytes c)) (t c) (tag_within (by c) (bytes c)) (tagged c)
 
 -- after the length was read
 abbrev up : tie.After-len → tie.After-tag
@@ -44,11 +44,11 @@ l c = record { number = c.len.given.0.0; size = c.len.given.0.1.0 }
 
 sized : (c : tie.After-len) → len_of (by (up c)) (rest (up c)) ≡ ok (l c)
 sized c =
-    ap (λ s. len_of (by (up c)) s) (sym (rest-is (t (up c)).size (bytes (up c))))
-    ∙ sym c.before.before.take_len.ensures ∙ ap len-reply c.len.given.1
+    ap (λ s. len_of (by (up c)) s) (sym (rest_is (t (up c)).size (bytes (up c))))
+    ∙ sym c.before.before.take_len.ensures ∙ ap len_reply c.len.given.1
 
-length-sized : (c : tie.After-len) → Sized (length (rest (up c))) (l c)
-length-sized c = all-is (Sized (length (rest (up c)))) (len_of (by (up c)) (rest (up c))) (l c) (len-within (by (up c)) (rest (up c))) (sized c)
+length_sized : (c : tie.After-len) → Sized (length (rest (up c))) (l c)
+length_sized c = all_is (Sized (length (rest (up c)))) (len_of (by (up c)) (rest (up c))) (l c) (len_within (by (up c)) (rest (up c))) (sized c)
 
 -- how many bytes there are after tag and length
 abbrev left : tie.After-len → ℕ
@@ -57,41 +57,41 @@ left c = length (bytes (up c)) - ((t (up c)).size + (l c).size)
 add_at : tie.Need-overflow-add-at
 add_at c =
     let p = c.before in
-    omega (arith, within (up p), length-sized p, length-drop (t (up p)).size (bytes (up p)))
+    omega (arith, within (up p), length_sized p, length-drop (t (up p)).size (bytes (up p)))
 
-sub-if1 : tie.Need-overflow-sub-if1
-sub-if1 c =
+sub_if1 : tie.Need-overflow-sub-if1
+sub_if1 c =
     let p = c.before in
-    omega (arith, within (up p), length-sized p, length-drop (t (up p)).size (bytes (up p)))
+    omega (arith, within (up p), length_sized p, length-drop (t (up p)).size (bytes (up p)))
 
 returns : tie.Need-returns
-unfolding objectOf
+unfolding object_of
 returns c =
     let p = c.before.before in
     rw (tagged (up p), sized p, le-leb (l p).number (left p) (omega (arith, c.if1.true)))
 
-returns-2 : tie.Need-returns-2
-unfolding objectOf
-returns-2 c = rw (sym c.before.before.front-tag.ensures ∙ ap tag-reply c.enum_told.given.1)
+returns_2 : tie.Need-returns-2
+unfolding object_of
+returns_2 c = rw (sym c.before.before.front-tag.ensures ∙ ap tag_reply c.enum_told.given.1)
 
-returns-3 : tie.Need-returns-3
-unfolding objectOf
-returns-3 c = rw (sym c.before.before.front-tag.ensures ∙ ap tag-reply c.enum-told2.given.1)
+returns_3 : tie.Need-returns-3
+unfolding object_of
+returns_3 c = rw (sym c.before.before.front-tag.ensures ∙ ap tag_reply c.enum-told2.given.1)
 
-returns-4 : tie.Need-returns-4
-unfolding objectOf
-returns-4 c =
+returns_4 : tie.Need-returns-4
+unfolding object_of
+returns_4 c =
     let p = c.before.before.before.before.before in
-    rw (tagged p, ap (λ s. len_of (by p) s) (sym (rest-is (t p).size (bytes p))) ∙ sym c.before.before.take_len.ensures ∙ ap len-reply c.enum-told3.given.1)
+    rw (tagged p, ap (λ s. len_of (by p) s) (sym (rest_is (t p).size (bytes p))) ∙ sym c.before.before.take_len.ensures ∙ ap len_reply c.enum-told3.given.1)
 
-returns-5 : tie.Need-returns-5
-unfolding objectOf
-returns-5 c =
+returns_5 : tie.Need-returns-5
+unfolding object_of
+returns_5 c =
     let p = c.before.before in
     rw (tagged (up p), sized p, lt-leb (l p).number (left p) (omega (arith, c.if1.false)))
 
-pub front-object-spec : {M : Type 1} → statement M
-front-object-spec =
+pub front_object_spec : {M : Type 1} → statement M
+front_object_spec =
     tie.close
     (tie.spec
     (λ c κs. search rules)
@@ -105,9 +105,9 @@ front-object-spec =
     (λ c. search rules)
     (λ c. search rules)
     add_at
-    sub-if1
+    sub_if1
     returns
-    returns-2
-    returns-3
-    returns-4
-    returns-5)
+    returns_2
+    returns_3
+    returns_4
+    returns_5)

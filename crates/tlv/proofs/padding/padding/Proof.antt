@@ -7,16 +7,16 @@ returns : tie.Need-returns
 unfolding padding
 returns c = rw c.enum_told.given.1
 
-returns-2 : tie.Need-returns-2
+returns_2 : tie.Need-returns-2
 unfolding padding
-returns-2 c = rw c.before.enum-told2.given.1 c.zeros.ensures
+returns_2 c = rw c.before.enum-told2.given.1 c.zeros.ensures
 
-pub padding-spec : {M : Type 1} → statement M
-padding-spec =
+pub padding_spec : {M : Type 1} → statement M
+padding_spec =
     tie.close
     (tie.spec
     (λ c. search rules)
     (λ c. search rules)
     (λ c κs. search rules)
     returns
-    returns-2)
+    returns_2)

@@ -4,8 +4,8 @@ use lib.ListN.{length-map}
 use Rattle.tlv.specs.Walk.{walk}
 use Rattle.tlv.specs.declared.Reading.TheVariants.{Crate}
 use Rattle.tlv_index.specs.Index.{entry_of}
-use Rattle.tlv_index.specs.Steps.{entriesPut, countsPut}
-use Rattle.tlv_index.proofs.Sections.{file-put}
+use Rattle.tlv_index.specs.Steps.{entries_put, counts_put}
+use Rattle.tlv_index.proofs.Sections.{file_put}
 use Rattle.tlv_index.proofs.build.put_index.Statement.{statement}
 use Rattle.tlv_index.proofs.build.put_index.Tie as tie
 
@@ -18,11 +18,11 @@ returns c =
     let n = s.args.n in
     let objects = (walk Crate 0 s.args.«record».now).items in
     counts.put-counts.ensures
-    ∙ ap (countsPut 2 n) (entries.put_entries.ensures ∙ ap (entriesPut 2 n 0 _) end.put-end.ensures)
-    ∙ file-put 2 _ n _ (length-map objects entry_of ∙ s.requires.0) s.requires.2
+    ∙ ap (counts_put 2 n) (entries.put_entries.ensures ∙ ap (entries_put 2 n 0 _) end.put-end.ensures)
+    ∙ file_put 2 _ n _ (length-map objects entry_of ∙ s.requires.0) s.requires.2
 
-pub put-index-spec : {M : Type 1} → statement M
-put-index-spec =
+pub put_index_spec : {M : Type 1} → statement M
+put_index_spec =
     tie.close
     (tie.spec
     (λ c κs. search rules)

@@ -2,13 +2,13 @@ use borrow.Author.Rules.{rules}
 use Prim.Native.Nat.{ℕ}
 use mathlib.Core.Path.{◌≡◌, sym, ap, ◌∙◌}
 use native.Mathlib.Omega.{arith}
-use Rattle.tlv_index.specs.File.{field, endCount, isReason}
-use Rattle.tlv_index.proofs.Files.{one_end, other-end}
+use Rattle.tlv_index.specs.File.{field, end_count, is_reason}
+use Rattle.tlv_index.proofs.Files.{one_end, other_end}
 use Rattle.tlv_index.proofs.file.ends_as.Statement.{statement}
 use Rattle.tlv_index.proofs.file.ends_as.Tie as tie
 
 -- the fourth count
-count : (c : tie.After-two-bytes) → let a = c.before.before.args in c.two_bytes.result ≡ field 2 (endCount 2 a.n) a.file.now
+count : (c : tie.After-two-bytes) → let a = c.before.before.args in c.two_bytes.result ≡ field 2 (end_count 2 a.n) a.file.now
 count c =
     let a = c.before.before.args in
     c.two_bytes.ensures ∙ ap (λ (k : ℕ). field 2 k a.file.now) (omega arith)
@@ -17,14 +17,14 @@ returns : tie.Need-returns
 returns c =
     let t = c.before.before in
     let a = t.before.before.before.args in
-    c.is-reason.ensures ∙ ap isReason (c.before.two-bytes2.ensures ∙ ap (λ (k : ℕ). field 2 k a.file.now) (omega arith))
+    c.is-reason.ensures ∙ ap is_reason (c.before.two-bytes2.ensures ∙ ap (λ (k : ℕ). field 2 k a.file.now) (omega arith))
     ∙ sym (one_end 2 _ _ (sym (count t.before) ∙ omega (arith, t.if1.true)))
 
-returns-2 : tie.Need-returns-2
-returns-2 c = sym (other-end 2 _ _ (λ e. c.if1.false (omega (arith, count c.before, e))))
+returns_2 : tie.Need-returns-2
+returns_2 c = sym (other_end 2 _ _ (λ e. c.if1.false (omega (arith, count c.before, e))))
 
-pub ends-as-spec : {M : Type 1} → statement M
-ends-as-spec =
+pub ends_as_spec : {M : Type 1} → statement M
+ends_as_spec =
     tie.close
     (tie.spec
     (λ c. search rules)
@@ -35,4 +35,4 @@ ends-as-spec =
     (λ c κs. search rules)
     (λ c κs. search rules)
     returns
-    returns-2)
+    returns_2)

@@ -5,18 +5,18 @@ use lib.ListN.{length}
 use Rattle.vectors.proofs.chunks.show_chunk.Statement.{statement}
 use Rattle.vectors.proofs.chunks.show_chunk.Tie as tie
 
-abbrev invariant-loop : tie.invariant-loop
-invariant-loop chunk expected walk₀ at₀ from₀ calls₀ walk at from calls = Unit {0}
+abbrev invariant_loop : tie.invariant-loop
+invariant_loop chunk expected walk₀ at₀ from₀ calls₀ walk at from calls = Unit {0}
 
-abbrev decreases-loop : tie.decreases-loop
-decreases-loop chunk expected walk₀ at₀ from₀ calls₀ walk at from calls = length chunk + 1 - calls
+abbrev decreases_loop : tie.decreases-loop
+decreases_loop chunk expected walk₀ at₀ from₀ calls₀ walk at from calls = length chunk + 1 - calls
 
-pub show-chunk-spec : {M : Type 1} → statement M
-show-chunk-spec =
+pub show_chunk_spec : {M : Type 1} → statement M
+show_chunk_spec =
     tie.close
     (tie.spec
-    invariant-loop
-    decreases-loop
+    invariant_loop
+    decreases_loop
     (λ c. tt)
     (λ c κs. search rules)
     (λ c κs. search rules)

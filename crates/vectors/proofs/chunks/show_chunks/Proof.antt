@@ -5,18 +5,18 @@ use lib.ListN.{length}
 use Rattle.vectors.proofs.chunks.show_chunks.Statement.{statement}
 use Rattle.vectors.proofs.chunks.show_chunks.Tie as tie
 
-abbrev invariant-loop : tie.invariant-loop
-invariant-loop chunks expected shown₀ from₀ shown from = Unit {0}
+abbrev invariant_loop : tie.invariant-loop
+invariant_loop chunks expected shown₀ from₀ shown from = Unit {0}
 
-abbrev decreases-loop : tie.decreases-loop
-decreases-loop chunks expected shown₀ from₀ shown from = length chunks - from
+abbrev decreases_loop : tie.decreases-loop
+decreases_loop chunks expected shown₀ from₀ shown from = length chunks - from
 
-pub show-chunks-spec : {M : Type 1} → statement M
-show-chunks-spec =
+pub show_chunks_spec : {M : Type 1} → statement M
+show_chunks_spec =
     tie.close
     (tie.spec
-    invariant-loop
-    decreases-loop
+    invariant_loop
+    decreases_loop
     (λ c κs. search rules)
     (λ c. tt)
     (λ c κs. search rules)

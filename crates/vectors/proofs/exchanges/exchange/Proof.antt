@@ -11,11 +11,11 @@ use Rattle.vectors.proofs.exchanges.exchange.Tie as tie
 front : (n : ℕ) (l : List ℕ) → n ≤ length l → n ≡ length (take n l)
 front n l h = omega (arith, length-take n l)
 
-slice-aggregate-show-exchange : tie.Need-slice-aggregate-show-exchange
-slice-aggregate-show-exchange c = front _ _ c.before.before.before.before.before.before.before.before.before.before.up-to-8.ensures
+slice_aggregate_show_exchange : tie.Need-slice-aggregate-show-exchange
+slice_aggregate_show_exchange c = front _ _ c.before.before.before.before.before.before.before.before.before.before.up-to-8.ensures
 
-pub exchange-spec : {M : Type 1} → statement M
-exchange-spec =
+pub exchange_spec : {M : Type 1} → statement M
+exchange_spec =
     tie.close
     (tie.spec
     (λ c. search rules)
@@ -34,7 +34,7 @@ exchange-spec =
     (λ c κs. search rules)
     (λ c. search rules)
     (λ c. search rules)
-    slice-aggregate-show-exchange
+    slice_aggregate_show_exchange
     (λ c κs. search rules)
     (λ c. search rules)
     (λ c. search rules)

@@ -6,18 +6,18 @@ use lib.ListN.{length}
 use Rattle.vectors.proofs.exchanges.show_steps.Statement.{statement}
 use Rattle.vectors.proofs.exchanges.show_steps.Tie as tie
 
-abbrev invariant-loop : tie.invariant-loop
-invariant-loop «data» responses room₀ expected state₀ at₀ from₀ t15 t16 room state at from = length room ≡ length room₀
+abbrev invariant_loop : tie.invariant-loop
+invariant_loop «data» responses room₀ expected state₀ at₀ from₀ t15 t16 room state at from = length room ≡ length room₀
 
-abbrev decreases-loop : tie.decreases-loop
-decreases-loop «data» responses room₀ expected state₀ at₀ from₀ t15 t16 room state at from = length responses - from
+abbrev decreases_loop : tie.decreases-loop
+decreases_loop «data» responses room₀ expected state₀ at₀ from₀ t15 t16 room state at from = length responses - from
 
-pub show-steps-spec : {M : Type 1} → statement M
-show-steps-spec =
+pub show_steps_spec : {M : Type 1} → statement M
+show_steps_spec =
     tie.close
     (tie.spec
-    invariant-loop
-    decreases-loop
+    invariant_loop
+    decreases_loop
     (λ c. search rules)
     (λ c κs. search rules)
     (λ c. search rules)

@@ -5,18 +5,18 @@ use lib.ListN.{length}
 use Rattle.vectors.proofs.report.hex.Statement.{statement}
 use Rattle.vectors.proofs.report.hex.Tie as tie
 
-abbrev invariant-loop : tie.invariant-loop
-invariant-loop expected start shown at₀ i₀ at i = Unit {0}
+abbrev invariant_loop : tie.invariant-loop
+invariant_loop expected start shown at₀ i₀ at i = Unit {0}
 
-abbrev decreases-loop : tie.decreases-loop
-decreases-loop expected start shown at₀ i₀ at i = length shown - i
+abbrev decreases_loop : tie.decreases-loop
+decreases_loop expected start shown at₀ i₀ at i = length shown - i
 
-pub hex-spec : {M : Type 1} → statement M
-hex-spec =
+pub hex_spec : {M : Type 1} → statement M
+hex_spec =
     tie.close
     (tie.spec
-    invariant-loop
-    decreases-loop
+    invariant_loop
+    decreases_loop
     (λ c. search rules)
     (λ c. search rules)
     (λ c κs. search rules)

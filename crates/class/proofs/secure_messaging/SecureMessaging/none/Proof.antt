@@ -1,7 +1,7 @@
 use borrow.Author.Rules.{rules}
 use native.Mathlib.Omega.{arith}
-use Rattle.basis.proofs.Truth.{number_is, number-is-not}
-use Rattle.class.specs.SecureMessaging.{none, secureMessagingAsNumber}
+use Rattle.basis.proofs.Truth.{number_is, number_is_not}
+use Rattle.class.specs.SecureMessaging.{none, secure_messaging_as_number}
 use Rattle.class.proofs.secure_messaging.SecureMessaging.none.Statement.{statement}
 use Rattle.class.proofs.secure_messaging.SecureMessaging.none.Tie as tie
 
@@ -14,8 +14,8 @@ none_spec =
     (λ c. search rules)
     (λ c. search rules)
     (λ c. search rules)
-    (λ c. number_is secureMessagingAsNumber none c.enum_told.given.1 (omega arith))
-    (λ c. number-is-not secureMessagingAsNumber none c.enum-told2.given.1 (omega arith))
-    (λ c. number-is-not secureMessagingAsNumber none c.enum-told3.given.1 (omega arith))
-    (λ c. number-is-not secureMessagingAsNumber none c.enum-told4.given.1 (omega arith))
-    (λ c. number-is-not secureMessagingAsNumber none c.enum-told5.given.1 (omega arith)))
+    (λ c. number_is secure_messaging_as_number none c.enum_told.given.1 (omega arith))
+    (λ c. number_is_not secure_messaging_as_number none c.enum-told2.given.1 (omega arith))
+    (λ c. number_is_not secure_messaging_as_number none c.enum-told3.given.1 (omega arith))
+    (λ c. number_is_not secure_messaging_as_number none c.enum-told4.given.1 (omega arith))
+    (λ c. number_is_not secure_messaging_as_number none c.enum-told5.given.1 (omega arith)))

@@ -12,28 +12,28 @@ use Rattle.command.proofs.owned.Command.extend_from_command_view.Tie as tie
 returns : tie.Need-returns
 returns c = no_room _ _ _ _ _ (omega arith) c.refused-extension.ensures
 
-returns-2 : tie.Need-returns-2
-returns-2 c = no_room _ _ _ _ _ (omega arith) c.refused-extension2.ensures
+returns_2 : tie.Need-returns-2
+returns_2 c = no_room _ _ _ _ _ (omega arith) c.refused-extension2.ensures
 
 -- the new data were written over the beginning of the part of the room after the held data
-data-written : (c : tie.After-copy) → let a = c.before.before.before.before.before.before.args in
+data_written : (c : tie.After-copy) → let a = c.before.before.before.before.before.before.args in
     c.copy.new.1.0
     ≡ over a.«data».now (take (length a.room.now - a.self.len) (drop a.self.len a.room.now))
-data-written c = c.copy.ensures.1 ∙ copied _ _
+data_written c = c.copy.ensures.1 ∙ copied _ _
 
-returns-3 : tie.Need-returns-3
-returns-3 c =
-    extended _ _ _ _ _ _ (omega arith) c.taken.ensures (lent _ _ _ _ (omega arith) (data-written c.before.before.before))
+returns_3 : tie.Need-returns-3
+returns_3 c =
+    extended _ _ _ _ _ _ (omega arith) c.taken.ensures (lent _ _ _ _ (omega arith) (data_written c.before.before.before))
 
-pub extend-from-command-view-spec : {M : Type 1} → statement M
-extend-from-command-view-spec =
+pub extend_from_command_view_spec : {M : Type 1} → statement M
+extend_from_command_view_spec =
     tie.close
     (tie.spec
     (λ c κs. search rules)
     returns
     (λ c. search rules)
     (λ c κs. search rules)
-    returns-2
+    returns_2
     (λ c. search rules)
     (λ c. search rules)
     (λ c. search rules)
@@ -41,4 +41,4 @@ extend-from-command-view-spec =
     (λ c. search rules)
     (λ c κs. search rules)
     (λ c. search rules)
-    returns-3)
+    returns_3)

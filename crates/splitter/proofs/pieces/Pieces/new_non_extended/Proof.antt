@@ -3,8 +3,8 @@ use native.Mathlib.Omega.{arith}
 use Prim.Native.Nat.{ℕ}
 use mathlib.Core.Path.{sym, ap, ◌∙◌}
 use borrow.Author.Tests.{lt-ltb, le-ltb}
-use Rattle.builder.specs.Builder.{asReply}
-use Rattle.splitter.specs.Pieces.{newPiecesOf}
+use Rattle.builder.specs.Builder.{as_reply}
+use Rattle.splitter.specs.Pieces.{new_pieces_of}
 use Rattle.splitter.proofs.pieces.Pieces.new_non_extended.Statement.{statement}
 use Rattle.splitter.proofs.pieces.Pieces.new_non_extended.Tie as tie
 
@@ -13,28 +13,28 @@ abbrev m : tie.After-builder → ℕ
 m c = c.before.before.before.before.args.available
 
 returns : tie.Need-returns
-unfolding newPiecesOf
+unfolding new_pieces_of
 returns c =
     let k = c.before.before in
-    rw (sym k.before.before.new.ensures ∙ ap asReply k.builder.given.1, lt-ltb (m k) 10 (omega (arith, c.if1.true)))
+    rw (sym k.before.before.new.ensures ∙ ap as_reply k.builder.given.1, lt-ltb (m k) 10 (omega (arith, c.if1.true)))
 
-returns-2 : tie.Need-returns-2
-unfolding newPiecesOf
-returns-2 c = rw (sym c.before.before.before.new.ensures ∙ ap asReply c.before.k.given.1)
+returns_2 : tie.Need-returns-2
+unfolding new_pieces_of
+returns_2 c = rw (sym c.before.before.before.new.ensures ∙ ap as_reply c.before.k.given.1)
 
-returns-3 : tie.Need-returns-3
-unfolding newPiecesOf
-returns-3 c =
+returns_3 : tie.Need-returns-3
+unfolding new_pieces_of
+returns_3 c =
     let k = c.before.before in
-    rw (sym k.before.before.new.ensures ∙ ap asReply k.builder.given.1, le-ltb (m k) 10 (omega (arith, c.if1.false)))
+    rw (sym k.before.before.new.ensures ∙ ap as_reply k.builder.given.1, le-ltb (m k) 10 (omega (arith, c.if1.false)))
 
-pub new-non-extended-spec : {M : Type 1} → statement M
-new-non-extended-spec =
+pub new_non_extended_spec : {M : Type 1} → statement M
+new_non_extended_spec =
     tie.close
     (tie.spec
     (λ c κs. search rules)
     (λ c. search rules)
     (λ c. search rules)
     returns
-    returns-2
-    returns-3)
+    returns_2
+    returns_3)

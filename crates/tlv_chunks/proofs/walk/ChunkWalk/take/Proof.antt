@@ -1,28 +1,28 @@
 use borrow.Author.Rules.{rules}
 use Rattle.tlv_chunks.specs.Call.{take_of}
-use Rattle.tlv_chunks.proofs.Calls.{from-the-start, value-in-one-step}
+use Rattle.tlv_chunks.proofs.Calls.{from_the_start, value_in_one_step}
 use Rattle.tlv_chunks.proofs.walk.ChunkWalk.take.Statement.{statement}
 use Rattle.tlv_chunks.proofs.walk.ChunkWalk.take.Tie as tie
 
 returns : tie.Need-returns
 returns c = rw c.before.enum_told.given.1 c.object-bytes.ensures
 
-returns-2 : tie.Need-returns-2
+returns_2 : tie.Need-returns-2
 unfolding take_of
-returns-2 c = rw (c.before.before.self.given.1, from-the-start) c.header-bytes.ensures
+returns_2 c = rw (c.before.before.self.given.1, from_the_start) c.header-bytes.ensures
 
-returns-3 : tie.Need-returns-3
-returns-3 c =
+returns_3 : tie.Need-returns-3
+returns_3 c =
     rw c.before.before.self2.given.1
-    (rw (value-in-one-step _ c.before.before.before.before.before.args.chunk.now) at c.value-bytes.ensures)
+    (rw (value_in_one_step _ c.before.before.before.before.before.args.chunk.now) at c.value-bytes.ensures)
 
-returns-4 : tie.Need-returns-4
+returns_4 : tie.Need-returns-4
 unfolding take_of
-returns-4 c = let stopped = c.before.enum-told2.given.1 in rw stopped (rw stopped at c.answered.ensures)
+returns_4 c = let stopped = c.before.enum-told2.given.1 in rw stopped (rw stopped at c.answered.ensures)
 
-returns-5 : tie.Need-returns-5
+returns_5 : tie.Need-returns-5
 unfolding take_of
-returns-5 c = let stopped = c.before.enum-told3.given.1 in rw stopped (rw stopped at c.answered2.ensures)
+returns_5 c = let stopped = c.before.enum-told3.given.1 in rw stopped (rw stopped at c.answered2.ensures)
 
 pub take_spec : {M : Type 1} → statement M
 take_spec =
@@ -39,7 +39,7 @@ take_spec =
     (λ c. search rules)
     (λ c κs. search rules)
     returns
-    returns-2
-    returns-3
-    returns-4
-    returns-5)
+    returns_2
+    returns_3
+    returns_4
+    returns_5)
