@@ -5,7 +5,7 @@ ghost use Rattle.abi.specs.Answers.{NumbersWritten, unless_refused, row, RowTold
 ghost use Rattle.std.specs.Prelude.{length};
 
 // An answer as numbers: its refusal, or 0, and then two numbers.
-#[derive(Drop)]
+#[derive(Clone, Copy)]
 pub struct Numbers(pub u8, pub u64, pub u64);
 
 // Writes numbers to the front of a lent slice. Returns 0, or 16 if the slice is too short.
@@ -88,7 +88,7 @@ pub fn copy_and_tell(part: &[u8], to: &mut [u8], numbers: &[u64], out: &mut [u64
     if to.len() < part.len() {
         return 16;
     }
-    bytes::copy(part, to);
+    to[..part.len()].copy_from_slice(part);
     write_numbers(numbers, out)
 }
 

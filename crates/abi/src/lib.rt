@@ -1,4 +1,6 @@
 // What the crates of exported functions share: how they answer a host program, and what the numbers of a host mean.
+#![tactic(auto)]
+
 mod answers;
 mod builders;
 mod commands;

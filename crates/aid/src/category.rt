@@ -6,7 +6,7 @@ ghost use Rattle.aid.specs.Category.{international, national, standard, propriet
 use crate::Aid;
 
 // The category of an AID: the high half of its first byte says it.
-#[derive(Drop)]
+#[derive(Clone, Copy)]
 pub enum Category {
     International,
     National,

@@ -1,5 +1,7 @@
 // Application identifiers (AIDs): making one, its category, its parts, and matching a name.
 // Ported, with changes, from src/aid.rs of the crate iso7816 0.2.2 (see NOTICE).
+#![tactic(auto)]
+
 ghost use Rattle.std.specs.Prelude.{◌≡◌};
 ghost use Rattle.aid.specs.Making.{tested, under_five, as_reply, TryNewIs, TryNewTruncatableIs};
 
@@ -12,7 +14,7 @@ pub use part::{Copied, Length, Part};
 
 // An AID: its bytes with zeros after them, how many they are, and the length to which a name may be truncated.
 // Only `try_new` and `try_new_truncatable` make one.
-#[derive(Drop)]
+#[derive(Clone, Copy)]
 pub struct Aid {
     bytes: [u8; 16],
     len: usize,
@@ -20,14 +22,14 @@ pub struct Aid {
 }
 
 // The AID was made, or it was refused with 6 to 10.
-#[derive(Drop)]
+#[derive(Clone, Copy)]
 pub enum Answer {
     Made,
     Refused(u8),
 }
 
 // The answer, and the AID. With a refusal the AID is that of the one byte 00.
-#[derive(Drop)]
+#[derive(Clone, Copy)]
 pub struct TryNew {
     pub answer: Answer,
     pub aid: Aid,
@@ -93,7 +95,8 @@ impl Aid {
             },
             Answer::Made => {
                 let mut padded = [0u8; 16];
-                let n = bytes::copy(aid, &mut padded);
+                let n = aid.len();
+                padded[..n].copy_from_slice(aid);
                 TryNew {
                     answer: Answer::Made,
                     aid: Aid {

@@ -7,7 +7,7 @@ use crate::{Aid, Category};
 
 // The parts of an AID: all its bytes, the truncated part, the registered application provider (RID), and what follows
 // it (PIX).
-#[derive(Drop)]
+#[derive(Clone, Copy)]
 pub enum Part {
     Bytes,
     Truncated,
@@ -16,14 +16,14 @@ pub enum Part {
 }
 
 // How many bytes a part has; `None` if there is no such part.
-#[derive(Drop)]
+#[derive(Clone, Copy)]
 pub enum Length {
     Bytes(usize),
     None,
 }
 
 // How many bytes were copied; `None` if there is no such part; 16 if it is longer than the buffer.
-#[derive(Drop)]
+#[derive(Clone, Copy)]
 pub enum Copied {
     Bytes(usize),
     None,
@@ -31,7 +31,7 @@ pub enum Copied {
 }
 
 // Where a part starts and ends among the 16 bytes.
-#[derive(Drop)]
+#[derive(Clone, Copy)]
 enum Span {
     Of(usize, usize),
     None,
@@ -101,11 +101,14 @@ impl Aid {
         match span_of(self, part) {
             Span::None => Copied::None,
             Span::Of(start, end) => {
-                if to.len() < end - start {
+                let n = end - start;
+                if to.len() < n {
                     return Copied::Refused(16);
                 }
                 let bytes = self.bytes;
-                Copied::Bytes(bytes::copy(&bytes[start..end], to))
+                let piece = &bytes[start..end];
+                to[..n].copy_from_slice(piece);
+                Copied::Bytes(n)
             }
         }
     }

@@ -1,6 +1,8 @@
 // What a host program calls of the crate `aid`: every operation, in numbers, of the AID that a name and a truncated
 // length make. Each function returns 0, or the number of a refusal (docs/RULES.md, section 1). It writes its numbers to
 // the front of the slice `out`, unless it refuses.
+#![tactic(auto)]
+
 ghost use Rattle.std.specs.Prelude.{◌≡◌};
 ghost use Rattle.aid.specs.Category.{category_as_number};
 ghost use Rattle.aid.specs.Making.{try_new};

@@ -8,6 +8,7 @@ use native.Mathlib.Numerals.{add-one}
 use native.Mathlib.Omega.{arith}
 use lib.ListN.{length, take, drop, set, get_or, length-append, length-drop, drop_of_length-le}
 use lib.Seq.{take-nil, paste-suc, take-length, sets, sets-eq, take_all, take_at, take-take, take-append-le, drop_at, drop-drop, length-take-le, drop-append-add}
+use borrow.Rule.Slice.PartMut.{put_mid}
 use Rattle.basis.specs.Over.{over, over_at}
 
 -- `&s[n..]` is what remains after the first n elements
@@ -39,6 +40,15 @@ stored vs l h = rw zero-add at (sets-eq vs l 0 (omega arith))
 pub copied : (vs l : List ℕ) → take (length vs) vs ++ drop (length vs) l ≡ over vs l
 unfolding over
 copied vs l = rw take-length
+
+-- vs copied over k elements from a place on, as `copy_from_slice` leaves the list, and over those at the front
+pub copied_at : (at k : ℕ) (vs ys l : List ℕ) → ys ≡ vs → k ≡ length vs → put_mid at k l ys ≡ over_at at vs l
+unfolding over_at
+copied_at at k vs ys l h e = rw (h, e, drop-drop)
+
+pub copied_front : (k : ℕ) (vs ys l : List ℕ) → ys ≡ vs → k ≡ length vs → put_mid 0 k l ys ≡ over vs l
+unfolding over
+copied_front k vs ys l h e = rw (h, e)
 
 pub copy_next : (vs l : List ℕ) (j : ℕ) → j < length vs → length vs ≤ length l
     → set (take j vs ++ drop j l) j (get_or vs j 0) ≡ take (j + 1) vs ++ drop (j + 1) l
@@ -77,6 +87,14 @@ over_at_twice at u v l h =
     ap (λ (k : ℕ). drop (k + length v) (p ++ d)) (sym n) ∙ drop-append-add p d (length v) ∙ drop-drop (length v) (at + length u) l
     ∙ ap (λ (k : ℕ). drop k l) size in
     rw (← append_assoc (take at l) u d, front, back) (simp append_assoc)
+
+-- v copied directly after u, which was written over the front
+pub copied_next : (b k : ℕ) (xs l u v ys : List ℕ) → l ≡ over u xs → b ≡ length u → length u ≤ length xs → ys ≡ v → k ≡ length v
+    → put_mid b k l ys ≡ over (u ++ v) xs
+copied_next b k xs l u v ys e eb h ey ek =
+    let first : l ≡ over_at 0 u xs = e ∙ sym (over_at_zero u xs) in
+    let place : b ≡ 0 + length u = omega arith in
+    copied_at b k v ys l ey ek ∙ rw (first, place) (over_at_twice 0 u v xs (omega arith)) ∙ over_at_zero (u ++ v) xs
 
 -- u written directly before v
 pub over_at_before : (at : ℕ) (u v l : List ℕ) → at + length u ≤ length l → over_at at u (over_at (at + length u) v l) ≡ over_at at (u ++ v) l

@@ -1,6 +1,8 @@
 // Building a command: a builder by value, made (rule 3.2) and forced to extended lengths. sizes.rt says how many bytes
 // its command takes, write.rt writes it.
 // Ported, with changes, from src/command.rs of the crate iso7816 0.2.2 (see NOTICE).
+#![tactic(auto)]
+
 ghost use Rattle.std.specs.Prelude.{◌≡◌};
 ghost use Rattle.basis.specs.Reply.{ok};
 ghost use Rattle.builder.specs.Builder.{in_mode, as_reply, NewIs, ForceExtendedIs};
@@ -13,14 +15,14 @@ use class::{Class, FromByte};
 pub use sizes::Length;
 
 // The expected length: how many bytes are expected in return, a number or the most there can be (rule 3.1).
-#[derive(Drop)]
+#[derive(Clone, Copy)]
 pub enum ExpectedLen {
     Ne(u16),
     Max,
 }
 
 // The mode: short lengths only, extended ones if they are needed, or extended ones always (rule 3.1).
-#[derive(Drop)]
+#[derive(Clone, Copy)]
 pub enum ExtendedLen {
     Unsupported,
     Supported,
@@ -28,7 +30,7 @@ pub enum ExtendedLen {
 }
 
 // A command without its data, which each function takes as plain bytes (rule 12.4).
-#[derive(Drop)]
+#[derive(Clone, Copy)]
 pub struct CommandBuilder {
     pub class: Class,
     pub instruction: u8,
@@ -40,7 +42,7 @@ pub struct CommandBuilder {
 
 // A builder, or the refusal: 3 for the class byte 0xFF, 13 for data above 65,535 bytes, 15 for extended lengths that
 // are forced but unsupported (rules 1.3, 1.13 and 1.15).
-#[derive(Drop)]
+#[derive(Clone, Copy)]
 pub enum Built {
     Builder(CommandBuilder),
     Refused(u8),

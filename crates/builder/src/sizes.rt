@@ -8,14 +8,14 @@ ghost use Rattle.builder.specs.declared.ExtendedLen.TheVariants.{Unsupported};
 use crate::{CommandBuilder, ExpectedLen, ExtendedLen};
 
 // A number of bytes, or the refusal: 13 for data above 65,535 bytes, 16 for a buffer that is too short from the place.
-#[derive(Drop)]
+#[derive(Clone, Copy)]
 pub enum Length {
     Bytes(usize),
     Refused(u8),
 }
 
 // How many bytes Lc and Le take, and the number that is written as Le.
-#[derive(Drop)]
+#[derive(Clone, Copy)]
 pub struct Fields {
     pub lc: usize,
     pub le: usize,

@@ -52,7 +52,7 @@ fn put_data(lc: usize, data: &[u8], to: &mut [u8])
     ensures { to.new ≡ over (field lc (length «data».now) ++ «data».now) to.old }
 {
     put_field(lc, data.len(), to);
-    bytes::copy(data, &mut to[lc..]);
+    to[lc..lc + data.len()].copy_from_slice(data);
 }
 
 // A command that fits: header, Le, then Lc and data, each written into the part that starts at its place (rule 12.12).

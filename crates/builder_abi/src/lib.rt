@@ -1,6 +1,8 @@
 // What a host program calls for a builder: the length of its command, the same with extended lengths forced, its
 // comparison with a command, and its command written (rule 12.6). Each function replies 0, or the number of a refusal,
 // and writes one number into the slice `out` if it replies 0.
+#![tactic(auto)]
+
 ghost use Rattle.std.specs.Prelude.{◌≡◌};
 ghost use Rattle.builder.specs.Builder.{as_reply};
 ghost use Rattle.builder_compare.specs.Compare.{as_reply as equalAsReply};

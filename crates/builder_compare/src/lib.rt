@@ -1,5 +1,7 @@
 // Comparing a builder with a command that was read. Rules 3.10 and 3.11.
 // Ported, with changes, from src/command.rs of the crate iso7816 0.2.2 (see NOTICE).
+#![tactic(auto)]
+
 ghost use Rattle.std.specs.Prelude.{◌≡◌};
 ghost use Rattle.builder_compare.specs.Compare.{le_compared, same_header, EqIs};
 
@@ -7,7 +9,7 @@ use builder::{CommandBuilder, ExpectedLen};
 use command::CommandView;
 
 // Equal or not, or the refusal: 13 for data above 65,535 bytes.
-#[derive(Drop)]
+#[derive(Clone, Copy)]
 pub enum Comparison {
     Equal,
     Different,

@@ -1,4 +1,6 @@
 // Slices of bytes: whether two hold the same bytes, and the part of a slice from a place with a length (rule 12.8).
+#![tactic(auto)]
+
 ghost use Rattle.std.specs.Prelude.{◌≡◌, cond, false, eqb};
 ghost use Rattle.byte_slices.specs.Slices.{SameIs, PartIs};
 

@@ -66,14 +66,14 @@ module _ (c d : List ℕ) where
   pub card_shown : (p : Profile) (at : ℕ) → profile_reply (fields_of c) ≡ ok p → at ≡ p.serial + 6 → ok (card at) ≡ whose_of c d
   card_shown p at e n =
       let t = fields_told c p e in
-      let place : at ≡ due_place c = omega (arith, n, t.serial-is) in
+      let place : at ≡ due_place c = omega (arith, n, t.serial_is) in
       ap (λ (a : ℕ). ok (card a)) place ∙ sym (whose_card c d _ t.fields_are)
 
   pub desk_shown : (k : ℕ) (p : Profile) (at : ℕ) → profile_reply (fields_of c) ≡ refused k → profile_reply (fields_of d) ≡ ok p
       → at ≡ p.serial + 6 → ok (desk at) ≡ whose_of c d
   desk_shown k p at r e n =
       let t = fields_told d p e in
-      let place : at ≡ due_place d = omega (arith, n, t.serial-is) in
+      let place : at ≡ due_place d = omega (arith, n, t.serial_is) in
       ap (λ (a : ℕ). ok (desk a)) place ∙ sym (whose_desk c d k _ (refusal_told c k r) t.fields_are)
 
   pub none_shown : (k l : ℕ) → profile_reply (fields_of c) ≡ refused k → profile_reply (fields_of d) ≡ refused l → refused l ≡ whose_of c d

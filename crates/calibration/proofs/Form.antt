@@ -27,8 +27,8 @@ true_head a b t l p q = rw (eq-eqb a t p, eq-eqb b l q)
 
 -- what the code's test of a head says, if it fails and if it does not
 module _ (s : List ℕ) (at t l : ℕ) (r : Bool) (e : r ≡ (eqb (get_or s at 0) t && eqb (get_or s (at + 1) 0) l)) where
-  pub no_head : not r ≡ true → Head s at t l → ⊥
-  no_head n h = true≢false (sym (e ∙ true_head (get_or s at 0) (get_or s (at + 1) 0) t l h.0 h.1) ∙ not-true r n)
+  pub no_head : r ≡ false → Head s at t l → ⊥
+  no_head n h = true≢false (sym (e ∙ true_head (get_or s at 0) (get_or s (at + 1) 0) t l h.0 h.1) ∙ n)
 
   pub is_head : r ≡ true → Head s at t l
   is_head y = head_true (get_or s at 0) (get_or s (at + 1) 0) t l (sym e ∙ y)

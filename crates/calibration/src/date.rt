@@ -4,7 +4,7 @@ ghost use Rattle.std.specs.Prelude.{◌≡◌, true, ◌≤◌, ◌<◌, length}
 ghost use Rattle.calibration.specs.Date.{days_in, is_real, is_earlier, is_decimal, two_digits, are_packed, date_in, date_of, date_reply, packed, date_bytes};
 
 // Three numbers: a year, a month and a day. Where a date is taken, it is tested whether there is such a date.
-#[derive(Drop)]
+#[derive(Clone, Copy)]
 pub struct Date {
     pub year: u32,
     pub month: u32,
@@ -12,7 +12,7 @@ pub struct Date {
 }
 
 // A date, or that there is no such date.
-#[derive(Drop)]
+#[derive(Clone, Copy)]
 pub enum ReadDate {
     Date(Date),
     NoDate,

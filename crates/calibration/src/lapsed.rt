@@ -5,7 +5,7 @@ use crate::date::{Date, is_earlier, is_real};
 use crate::profile::{ReadProfile, read_profile};
 
 // Whether it has lapsed; refused like the record (26, 27), then if there is no such date as the given one (27).
-#[derive(Drop)]
+#[derive(Clone, Copy)]
 pub enum HasLapsed {
     Says(bool),
     Refused(u8),

@@ -1,6 +1,8 @@
 // The calibration profile (section 19 of docs/RULES.md): the record that each balance carries. It is read, written,
 // held against a date, and its due date is shown. A record is taken only if it is exactly of this form: nothing here
 // looks for a tag.
+#![tactic(auto)]
+
 mod date;
 mod lapsed;
 mod profile;

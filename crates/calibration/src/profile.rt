@@ -7,7 +7,7 @@ use crate::date::{Date, ReadDate, read_date};
 
 // The fields of a record: how many bytes the serial has, which stands at place 4; the due date; the capacity in
 // milligrams.
-#[derive(Drop)]
+#[derive(Clone, Copy)]
 pub struct Profile {
     pub serial: usize,
     pub due: Date,
@@ -15,7 +15,7 @@ pub struct Profile {
 }
 
 // The fields; refused if the bytes are not of this form (26), then if there is no such date (27).
-#[derive(Drop)]
+#[derive(Clone, Copy)]
 pub enum ReadProfile {
     Profile(Profile),
     Refused(u8),

@@ -10,7 +10,7 @@ use crate::date::{Date, date_bytes, is_real};
 
 // How many bytes were written; refused if the serial has no bytes or more than 16 (26), then if there is no such date
 // (27), then if the record does not fit from the place (16).
-#[derive(Drop)]
+#[derive(Clone, Copy)]
 pub enum PutProfile {
     Written(usize),
     Refused(u8),
@@ -63,7 +63,7 @@ fn write(serial: &[u8], due: Date, capacity: u32, buffer: &mut [u8], at: usize)
     let at_due = at_serial + n;
     let at_capacity = at_due + 6;
     put_front(n, &mut buffer[at..]);
-    bytes::copy(serial, &mut buffer[at_serial..]);
+    buffer[at_serial..at_serial + n].copy_from_slice(serial);
     put_object(0xC2, date_bytes(due), &mut buffer[at_due..]);
     put_object(0xC3, capacity_bytes(capacity), &mut buffer[at_capacity..]);
 }

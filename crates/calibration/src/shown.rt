@@ -4,7 +4,7 @@ ghost use Rattle.calibration.specs.Shown.{DueShownFromIs, DueShownIs};
 use crate::profile::{ReadProfile, read_profile};
 
 // The place of the due date in the card's record or in the desk's; if both are refused, the desk's refusal (26 or 27).
-#[derive(Drop)]
+#[derive(Clone, Copy)]
 pub enum DueShownFrom {
     Card(usize),
     Desk(usize),

@@ -1,6 +1,8 @@
 // What a host program calls of the crate `calibration`, in numbers (rule 19.12). Each function returns 0, or the number
 // of a refusal (docs/RULES.md, section 1). It writes its numbers to the front of the slice `out`, unless it refuses. If
 // `out` is too short: 16, before 26 and 27.
+#![tactic(auto)]
+
 ghost use Rattle.std.specs.Prelude.{◌≡◌};
 ghost use Rattle.abi.specs.Answers.{NumbersWritten, ReplyCopied};
 ghost use Rattle.calibration_abi.specs.Numbers.{date_by, profile_numbers, read_reply, serial_reply, lapsed_reply};

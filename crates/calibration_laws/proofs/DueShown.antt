@@ -29,7 +29,7 @@ due_there s p e =
     let r = read_says s _ t.fields_are in
     let due : p.due ≡ date_in (due_of s) = ap (λ (f : Fields). f.due) r.same in
     let b = bytes_back (due_of s) (due_size s (profile_formed s r.form).least) r.digits in
-    ap (λ (n : ℕ). take 4 (drop (n + 6) s)) t.serial-is ∙ sym b ∙ date_digits (date_in (due_of s)) ∙ ap digit_bytes (sym due)
+    ap (λ (n : ℕ). take 4 (drop (n + 6) s)) t.serial_is ∙ sym b ∙ date_digits (date_in (due_of s)) ∙ ap digit_bytes (sym due)
 
 -- the card's record and the desk's, what `read_profile` answers of each, whose due date is shown, and its bytes
 module _ (c d : List ℕ) (yc yd : ReadProfile) (pc : ReadProfileIs c yc) (pd : ReadProfileIs d yd) (w : DueShownFrom)

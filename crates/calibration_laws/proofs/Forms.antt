@@ -38,9 +38,9 @@ there s v d c lo hi hd hc e =
     let p = template_parts v d c hd hc s whole in
     record {
       form = all_heads s (omega (arith, size, lo)) (omega (arith, size, hi)) (subst (Heads s) n p.heads);
-      serial = ap (λ (k : ℕ). take k (drop 4 s)) (sym n) ∙ p.serial-there;
-      due = ap (λ (k : ℕ). take 4 (drop (k + 6) s)) (sym n) ∙ p.due-there;
-      capacity = ap (λ (k : ℕ). take 4 (drop (k + 6 + 6) s)) (sym n) ∙ p.capacity-there;
+      serial = ap (λ (k : ℕ). take k (drop 4 s)) (sym n) ∙ p.serial_there;
+      due = ap (λ (k : ℕ). take 4 (drop (k + 6) s)) (sym n) ∙ p.due_there;
+      capacity = ap (λ (k : ℕ). take 4 (drop (k + 6 + 6) s)) (sym n) ∙ p.capacity_there;
     }
 
 module _ (s : List ℕ) where

@@ -150,7 +150,7 @@ module _ (s : List ℕ) (y : ReadProfile) (py : ReadProfileIs s y) (p : Profile)
   found =
       let t = fields_told s p (read_as s y py p e) in
       let lo = t.formed.least in
-      let size : length (serial_of s) ≡ p.serial = serial_size s lo ∙ sym t.serial-is in
+      let size : length (serial_of s) ≡ p.serial = serial_size s lo ∙ sym t.serial_is in
       let few : length (serial_of s) ≤ 16 = omega (arith, serial_size s lo, t.formed.most) in
       ap (λ (l : List ℕ). lookup r l (0xE1 ∷ 0xC2 ∷ [])) t.formed.whole
       ∙ template_found r (serial_of s) (due_of s) (capacity_of s) few (due_size s lo) (capacity_size s lo)

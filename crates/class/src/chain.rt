@@ -5,7 +5,7 @@ ghost use Rattle.class.specs.Chain.{ChainIs, AsChainedIs, LastOrOnlyIs, NotTheLa
 use crate::Class;
 
 // What bit 0x10 says of a command. No operation returns `Unknown`.
-#[derive(Drop)]
+#[derive(Clone, Copy)]
 pub enum Chain {
     LastOrOnly,
     NotTheLast,

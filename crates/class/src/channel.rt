@@ -6,7 +6,7 @@ ghost use Rattle.class.specs.Channel.{further_of, ChannelIs};
 use crate::{Class, Interindustry, Range, Reading};
 
 // A logical channel; a reserved or proprietary class has none.
-#[derive(Drop)]
+#[derive(Clone, Copy)]
 pub enum Channel {
     Number(u8),
     None,

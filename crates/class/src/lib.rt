@@ -1,6 +1,8 @@
 // The class byte of a command: its range, secure messaging, chaining and channel, in the crate and the standard
 // reading.
 // Ported, with changes, from src/command/class.rs of the crate iso7816 0.2.2 (see NOTICE).
+#![tactic(auto)]
+
 ghost use Rattle.class.specs.Class.{FromByteIs, IntoInnerIs};
 
 mod chain;
@@ -14,20 +16,20 @@ pub use range::{FromCla, Interindustry, Range};
 pub use secure_messaging::SecureMessaging;
 
 // A class byte. Only `from_byte`, `as_chained` and the constants make one.
-#[derive(Drop)]
+#[derive(Clone, Copy)]
 pub struct Class {
     cla: u8,
 }
 
 // The two readings: what the Rust says of a class, and what ISO/IEC 7816-4 says.
-#[derive(Drop)]
+#[derive(Clone, Copy)]
 pub enum Reading {
     Crate,
     Standard,
 }
 
 // The class of a byte; 0xFF is no class (3).
-#[derive(Drop)]
+#[derive(Clone, Copy)]
 pub enum FromByte {
     Class(Class),
     Refused(u8),

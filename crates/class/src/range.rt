@@ -5,14 +5,14 @@ ghost use Rattle.class.specs.Range.{RangeIs, FromClaIs};
 use crate::{Class, FromByte};
 
 // The range of a class.
-#[derive(Drop)]
+#[derive(Clone, Copy)]
 pub enum Range {
     Interindustry(Interindustry),
     Proprietary,
 }
 
 // The ranges of interindustry classes.
-#[derive(Drop)]
+#[derive(Clone, Copy)]
 pub enum Interindustry {
     First,
     Further,
@@ -20,7 +20,7 @@ pub enum Interindustry {
 }
 
 // The range of a class byte; 0xFF has none (3).
-#[derive(Drop)]
+#[derive(Clone, Copy)]
 pub enum FromCla {
     Range(Range),
     Refused(u8),

@@ -6,7 +6,7 @@ ghost use Rattle.class.specs.SecureMessaging.{first_of, further_of, secure_messa
 use crate::{Class, Interindustry, Range, Reading};
 
 // The indication; `Unknown` of a reserved or proprietary class.
-#[derive(Drop)]
+#[derive(Clone, Copy)]
 pub enum SecureMessaging {
     None,
     Proprietary,

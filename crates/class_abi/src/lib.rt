@@ -1,5 +1,7 @@
 // What a host program calls of the crate `class`: every operation, in numbers. Each function returns 0, or the number
 // of a refusal (docs/RULES.md, section 1). It writes its numbers to the front of the slice `out`, unless it refuses.
+#![tactic(auto)]
+
 ghost use Rattle.std.specs.Prelude.{◌≡◌};
 ghost use Rattle.class.specs.Channel.{channel_as_option};
 ghost use Rattle.class.specs.Chain.{chain_as_number};

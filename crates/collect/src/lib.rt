@@ -1,5 +1,7 @@
 // Collecting what a card answers to a command: what to send next after each response, until none is asked for. The data
 // of all responses stand in a room that the caller lends (rules 14.1 to 14.8).
+#![tactic(auto)]
+
 ghost use Rattle.std.specs.Prelude.{◌≡◌};
 ghost use Rattle.collect.specs.Collect.{expected_by, get_response, with_le, builder_of, again, next_as_option, next_of};
 ghost use Rattle.collect.specs.Collect.{StartIs, StepIs, WriteIs, CollectedIs};
@@ -10,14 +12,14 @@ use class::Class;
 use response::{Answer, Response, Status};
 
 // What was sent last: the command, whose data the caller keeps, or GET RESPONSE, which has none.
-#[derive(Drop)]
+#[derive(Clone, Copy)]
 pub enum Sent {
     Command(CommandBuilder),
     GetResponse(CommandBuilder),
 }
 
 // The state of a collection: what was sent last or is to be sent now, and how many bytes of the room are held.
-#[derive(Drop)]
+#[derive(Clone, Copy)]
 pub struct Collection {
     pub sent: Sent,
     pub len: usize,
@@ -25,7 +27,7 @@ pub struct Collection {
 
 // The answer to a response. Send: what this state says is to be sent next. Done: nothing more is to be sent; this is the
 // whole response, and its data are at the room's beginning. Refused: with 22 or 23; the state stays.
-#[derive(Drop)]
+#[derive(Clone, Copy)]
 pub enum Step {
     Send(Collection),
     Done(Response),
@@ -33,7 +35,7 @@ pub enum Step {
 }
 
 // What a status calls for.
-#[derive(Drop)]
+#[derive(Clone, Copy)]
 enum Next {
     Send(Sent),
     Nothing,

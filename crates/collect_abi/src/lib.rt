@@ -1,6 +1,8 @@
 // What a host program calls to collect a response (rules 14.1 to 14.8). The state of a collection goes into a call and
 // out of it as eight numbers: kind (0 for the command, any other for GET RESPONSE), class, instruction, P1, P2,
 // expected length, mode, and how many bytes are held. Each function returns 0, or the number of a refusal.
+#![tactic(auto)]
+
 ghost use Rattle.std.specs.Prelude.{◌≤◌, ◌≡◌, length};
 ghost use Rattle.basis.specs.Reply.{ok};
 ghost use Rattle.abi.specs.Answers.{NumbersWritten};

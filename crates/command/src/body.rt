@@ -6,7 +6,7 @@ ghost use Rattle.command.specs.Body.{lengths, or_most, short_body, long_body, ex
 use class::Reading;
 
 // Where the data of a body start, how many bytes they are, the expected length, and whether the lengths are extended.
-#[derive(Drop)]
+#[derive(Clone, Copy)]
 pub struct ParsedLengths {
     pub offset: usize,
     pub lc: usize,
@@ -15,7 +15,7 @@ pub struct ParsedLengths {
 }
 
 // The lengths of a body, or the refusal: 4, 5, and in the standard reading 21 (rules 1.4, 1.5 and 1.21).
-#[derive(Drop)]
+#[derive(Clone, Copy)]
 pub enum ParseLengths {
     Lengths(ParsedLengths),
     Refused(u8),

@@ -1,6 +1,8 @@
 // Reading a command, in the crate reading and the standard one: its numbers and its data. Rules 2.1, 2.2 and 2.8.
 // body.rt reads the lengths of the body, owned.rt makes owned copies.
 // Ported, with changes, from src/command.rs of the crate iso7816 0.2.2 (see NOTICE).
+#![tactic(auto)]
+
 ghost use Rattle.std.specs.Prelude.{◌≡◌, ◌≤◌, length};
 ghost use Rattle.command.specs.Command.{parse_body, as_reply, TryFromIs, DataIs};
 
@@ -13,7 +15,7 @@ pub use owned::{Command, Extended, Extending, Owned};
 
 // A command as numbers: its header, where its data start and how many bytes they are, its expected length, and whether
 // its lengths are extended.
-#[derive(Drop)]
+#[derive(Clone, Copy)]
 pub struct CommandView {
     pub class: Class,
     pub instruction: u8,
@@ -26,7 +28,7 @@ pub struct CommandView {
 }
 
 // A command that was read, or the refusal: 1, 3, 4, 5, and in the standard reading 21 (rules 1.1, 1.3 to 1.5 and 1.21).
-#[derive(Drop)]
+#[derive(Clone, Copy)]
 pub enum Parsed {
     View(CommandView),
     Refused(u8),

@@ -8,7 +8,7 @@ use crate::{CommandView, Parsed};
 use class::{Class, Reading};
 
 // An owned command: its numbers, and how many bytes of data stand at the beginning of its room.
-#[derive(Drop)]
+#[derive(Clone, Copy)]
 pub struct Command {
     pub class: Class,
     pub instruction: u8,
@@ -20,21 +20,21 @@ pub struct Command {
 }
 
 // A copy, or the refusal: those of reading, then 2 if the data are longer than the room (rules 1.2 and 1.23).
-#[derive(Drop)]
+#[derive(Clone, Copy)]
 pub enum Owned {
     Command(Command),
     Refused(u8),
 }
 
 // Extended, or 18 if held and new data together exceed the room (rule 1.18).
-#[derive(Drop)]
+#[derive(Clone, Copy)]
 pub enum Extending {
     Done,
     Refused(u8),
 }
 
 // The answer, and the command: its header, expected length and flag are the new ones, also with a refusal (rule 1.26).
-#[derive(Drop)]
+#[derive(Clone, Copy)]
 pub struct Extended {
     pub answer: Extending,
     pub command: Command,
@@ -70,7 +70,8 @@ impl Command {
                 }
                 let at = view.at;
                 let end = at + len;
-                bytes::copy(&apdu[at..end], room);
+                let data = &apdu[at..end];
+                room[..len].copy_from_slice(data);
                 Owned::Command(taken(view, len, view.extended))
             }
         }
@@ -94,7 +95,7 @@ impl Command {
         if room.len() - held < n {
             return refused_extension(view, held);
         }
-        bytes::copy(data, &mut room[held..]);
+        room[held..held + n].copy_from_slice(data);
         Extended {
             answer: Extending::Done,
             command: taken(view, held + n, true),

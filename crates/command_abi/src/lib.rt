@@ -1,5 +1,7 @@
 // What a host program calls to read a command: its numbers (rule 12.6). The function replies 0, or the number of a
 // refusal, and writes the numbers into the slice `out` only if it replies 0.
+#![tactic(auto)]
+
 ghost use Rattle.abi.specs.Answers.{NumbersWritten};
 ghost use Rattle.command_abi.specs.Numbers.{view_numbers, command_reply};
 ghost use Rattle.std.specs.Prelude.{◌≡◌};

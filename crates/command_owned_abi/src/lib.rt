@@ -1,5 +1,7 @@
 // What a host program calls for the data of a command, its owned copy and its extension (rule 12.6). Each function
 // replies 0, or the number of a refusal. Numbers are written into the slice `out`.
+#![tactic(auto)]
+
 ghost use Rattle.std.specs.Prelude.{◌≡◌, ◌≤◌, length};
 ghost use Rattle.basis.specs.Reply.{status, then};
 ghost use Rattle.command.specs.Command.{parse};

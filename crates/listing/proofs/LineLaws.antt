@@ -1,22 +1,23 @@
 -- Laws of the lines of commands and records. Rules 10.3 to 10.8.
 use Prim.Native.Nat.{ℕ, ◌+◌, ◌-◌, ◌/◌, ◌≤◌, ◌<◌}
-use mathlib.Core.Path.{◌≡◌, refl, sym, ap}
+use mathlib.Core.Path.{◌≡◌, refl, sym, ap, ◌∙◌}
 use mathlib.Core.Bool.{cond}
 use mathlib.Core.List.{List, [], ◌∷◌, ◌++◌}
 use native.Mathlib.Omega.{arith}
-use native.Mathlib.Nat.{add-zero}
+use native.Mathlib.Nat.{add-zero, min-eq_left}
 use lib.Dec.{eqb}
-use lib.ListN.{take, drop}
+use lib.ListN.{length, take, drop, length-drop}
+use lib.Seq.{drop-drop}
 use borrow.Author.Tests.{lt-ltb, le-ltb}
 use Rattle.basis.specs.Reply.{ok, refused}
 use Rattle.class.specs.declared.Reading.TheVariants as class_reading
 use Rattle.command.specs.Command.{parse}
 use Rattle.command.specs.declared.CommandView.{CommandView}
-use Rattle.tlv.specs.Object.{Item, Stop, next_of, size_of, moved}
+use Rattle.tlv.specs.Object.{Item, Stop, next_of, size_of, moved, object_at}
 use Rattle.tlv.specs.Walk.{walk}
 use Rattle.tlv.specs.declared.Reading.TheVariants.{Crate}
 use Rattle.tlv.proofs.Within.{crate_stop}
-use Rattle.tlv.proofs.Walk.{walk_refused, walk_met, walk_stopped, walk_item}
+use Rattle.tlv.proofs.Walk.{walk_refused, walk_met, walk_stopped, walk_item, item_inside}
 use Rattle.listing.specs.declared.lines.Section.{Section}
 use Rattle.listing.specs.Input.{pair, items, items_at}
 use Rattle.listing.specs.Text.{line, head_line, line_form, line_numbers, view_line, command_line}
@@ -85,6 +86,28 @@ module _ (k j a : ℕ) (s : List ℕ) where
       → lines_from k j a s ≡ object_line k j i.tag i.len ++ lines_from k (j + 1) (i.at + i.len) (drop (i.at + i.len - a) s)
   unfolding walk_lines
   lines_item i h = rw (walk_item Crate a s i h)
+
+-- the same for record s from its place a on, by what is read at that place; and where that object lies
+module _ (k j a : ℕ) (s : List ℕ) (h : a ≤ length s) where
+  read_at : object_at Crate s a ≡ moved a (next_of Crate (drop a s))
+  read_at = rw (min-eq_left {n = a} {m = length s} h)
+
+  pub rest_end : (n : ℕ) → refused (record { number = 11; place = n }) ≡ object_at Crate s a → lines_from k j a (drop a s) ≡ []
+  rest_end n e = lines_end k j a (drop a s) n (sym (e ∙ read_at))
+
+  pub rest_12 : (n : ℕ) → refused (record { number = 12; place = n }) ≡ object_at Crate s a
+      → lines_from k j a (drop a s) ≡ line "%.% refused % at %\n" (k ∷ j ∷ 12 ∷ n ∷ [])
+  rest_12 n e = lines_12 k j a (drop a s) n (sym (e ∙ read_at))
+
+  module _ (i : Item) (e : ok i ≡ object_at Crate s a) where
+    pub object_bounds : (a + 1 ≤ i.at) × (i.at + i.len ≤ length s)
+    object_bounds = omega (arith, item_inside Crate a (drop a s) i (sym (e ∙ read_at)), length-drop a s)
+
+    pub rest_object : lines_from k j a (drop a s)
+        ≡ object_line k j i.tag i.len ++ lines_from k (j + 1) (i.at + i.len) (drop (i.at + i.len) s)
+    rest_object =
+        let back : a + (i.at + i.len - a) ≡ i.at + i.len = omega (arith, object_bounds) in
+        rw (drop-drop (i.at + i.len - a) a s, back) at (lines_item k j a (drop a s) i (sym (e ∙ read_at)))
 
 -- the text of the items from a place on: none left; one of n bytes, and those after it
 module _ (x : Section) (k : ℕ) (s : List ℕ) (at left : ℕ) where

@@ -22,14 +22,15 @@ module _ (s l : List ℕ) (b : Bytes s) (long : 780000 ≤ length l) where
   unfolding text_of
   to_write_malformed e = to_write_as (rw e) whole
 
-  -- well-formed input, whose second section begins at m: the texts of both sections; and both lie inside the input
+  -- well-formed input, whose second section begins at m: the texts of both sections
   module _ (m : ℕ) (h : m ≡ section_size s) (e : well_formed s ≡ true) where
     pub to_write_formed : ToWrite (text_of s) 0 l (section_text Commands (items_at s) ++ section_text Records (items_at (drop m s))) 0 l
     unfolding text_of
     to_write_formed = to_write_as (rw (e, h)) whole
 
-    pub inside : (length s ≤ 60000) × (m + section_size (drop m s) ≡ length s)
-    inside = rw h (formed_is s e)
+-- both sections of well-formed input lie inside it
+pub inside : (s : List ℕ) (m : ℕ) → m ≡ section_size s → well_formed s ≡ true → (length s ≤ 60000) × (m + section_size (drop m s) ≡ length s)
+inside s m h e = rw h (formed_is s e)
 
 pub listed : (s before : List ℕ) (r : ℕ) (after : List ℕ) → Bytes s → 780000 ≤ length before → Puts (text_of s) 0 before r after
     → ListIs s before r after

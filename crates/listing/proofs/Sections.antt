@@ -6,7 +6,6 @@ use native.Mathlib.Nat.{add_assoc, add-sub_cancel_left}
 use native.Mathlib.Omega.{arith}
 use lib.ListN.{length, get_or, take, drop}
 use lib.Seq.{get_or-drop, drop-drop}
-use Rattle.basis.specs.Number.{Bytes}
 use Rattle.listing.specs.Input.{pair, items, items_size, items_at, section_size}
 
 -- two bytes at a place

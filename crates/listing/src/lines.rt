@@ -10,7 +10,7 @@ use command::{CommandView, Parsed};
 use tlv::{TakeDataObject, take_data_object};
 
 // What the items of a section are.
-#[derive(Drop)]
+#[derive(Clone, Copy)]
 pub enum Section {
     Commands,
     Records,

@@ -1,5 +1,7 @@
 // The reassembler: joins the pieces of a chain to one command again, in a room that the caller lends (rules 5.1 to
 // 5.9). Added by us: the Rust crate has no reassembler.
+#![tactic(auto)]
+
 ghost use Rattle.std.specs.Prelude.{◌≡◌};
 ghost use Rattle.basis.specs.Reply.{ok, refused};
 ghost use Rattle.reassembler.specs.Join.{same_class, continues_open, continues, held_len, extended_in, command_in, answer_of, state_of, view_in, Says, Joins, JoinIs, ClosedIs, DataIs};
@@ -9,7 +11,7 @@ use class::{Class, Reading};
 use command::{Command, CommandView, Extending, Parsed};
 
 // An open chain: the header of its latest piece, and how many bytes of the room hold the data joined so far.
-#[derive(Drop)]
+#[derive(Clone, Copy)]
 pub struct OpenChain {
     pub class: Class,
     pub instruction: u8,
@@ -19,7 +21,7 @@ pub struct OpenChain {
 }
 
 // The state of a reassembler: no chain is open, or one is. It holds no Le (rule 5.7).
-#[derive(Drop)]
+#[derive(Clone, Copy)]
 pub enum Reassembler {
     Closed,
     Open(OpenChain),
@@ -27,7 +29,7 @@ pub enum Reassembler {
 
 // The answer to a piece. More: the chain goes on. Command: the whole command, whose data are at the room's beginning.
 // Refused: with the parser's number (rule 5.1), with 17 (rule 5.2) or with 18 (rule 5.3).
-#[derive(Drop)]
+#[derive(Clone, Copy)]
 pub enum Joining {
     More,
     Command(Command),
@@ -35,7 +37,7 @@ pub enum Joining {
 }
 
 // The answer to a piece, and the state after it.
-#[derive(Drop)]
+#[derive(Clone, Copy)]
 pub struct Joined {
     pub answer: Joining,
     pub state: Reassembler,

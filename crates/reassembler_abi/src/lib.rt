@@ -1,5 +1,7 @@
 // What a host program calls to join pieces (rules 5.1 to 5.9). The state of a reassembler goes into a call and out of
 // it as six numbers. Each function returns 0, or the number of a refusal (rules 1.1 to 1.21).
+#![tactic(auto)]
+
 ghost use Rattle.std.specs.Prelude.{◌≡◌, ◌++◌};
 ghost use Rattle.basis.specs.Reply.{ok};
 ghost use Rattle.reassembler.specs.Join.{as_reply, ClosedIs};
@@ -13,7 +15,7 @@ use command::Command;
 use reassembler::{Joining, OpenChain, Reassembler};
 
 // A state that was given as numbers, or a refusal.
-#[derive(Drop)]
+#[derive(Clone, Copy)]
 enum Numbered {
     State(Reassembler),
     Refused(u8),

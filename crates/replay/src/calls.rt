@@ -20,7 +20,7 @@ use tlv_abi::{
 use tlv_lookup_abi::gorvisclen_get_data_object;
 
 // The first parameters of a builder and of a command that is cut: header and Le.
-#[derive(Drop)]
+#[derive(Clone, Copy)]
 struct Head {
     class: u8,
     instruction: u8,

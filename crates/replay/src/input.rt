@@ -71,7 +71,7 @@ fn filled(to: &mut [u8], from: usize, n: usize, first: u8, step: u8) -> usize {
 // How a string is written in the file. `front`: how many bytes are before its filling. `filling`: how many bytes the
 // filling has; `first`: the first of them; `step`: the step from each to the next. `back`: how many bytes are after it.
 // `taken`: how many bytes of the file all that takes.
-#[derive(Drop)]
+#[derive(Clone, Copy)]
 pub(crate) struct Form {
     front: usize,
     filling: usize,

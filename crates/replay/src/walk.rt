@@ -4,7 +4,7 @@ use crate::{answer, calls, input, report};
 use byte_slices::part;
 
 // How many answers there are, how many of them differ, and whether the file has all of the last one.
-#[derive(Drop)]
+#[derive(Clone, Copy)]
 struct Tally {
     answers: usize,
     differing: usize,

@@ -1,5 +1,7 @@
 // Responses, what a card says back: a response split into its data and its status (rules 13.1 and 13.2), and its data
 // appended to a room that the caller lends (rule 13.6). status.rt says what a status means, words.rt names some.
+#![tactic(auto)]
+
 ghost use Rattle.response.specs.Response.{SplitIs, DataIs, Holds, AppendIs};
 
 mod status;
@@ -9,14 +11,14 @@ pub use status::{Status, StatusClass};
 pub use words::{Copied, Entry};
 
 // A response as numbers: how many bytes of data it has, and its status.
-#[derive(Drop)]
+#[derive(Clone, Copy)]
 pub struct Response {
     pub len: usize,
     pub status: Status,
 }
 
 // A response, or the refusal: 22, and for an append then 23 (rules 1.28 and 1.29).
-#[derive(Drop)]
+#[derive(Clone, Copy)]
 pub enum Answer {
     Response(Response),
     Refused(u8),
@@ -60,7 +62,7 @@ fn hold(status: Status, data: &[u8], held: usize, room: &mut [u8]) -> Answer
     if room.len() - held < n {
         return Answer::Refused(23);
     }
-    bytes::copy(data, &mut room[held..]);
+    room[held..held + n].copy_from_slice(data);
     Answer::Response(Response {
         len: held + n,
         status,

@@ -2,14 +2,14 @@
 ghost use Rattle.response.specs.Status.{WordIs, ClassIs};
 
 // The two status bytes of a response.
-#[derive(Drop)]
+#[derive(Clone, Copy)]
 pub struct Status {
     pub sw1: u8,
     pub sw2: u8,
 }
 
 // The class of a status.
-#[derive(Drop)]
+#[derive(Clone, Copy)]
 pub enum StatusClass {
     Normal,
     Warning,

@@ -6,7 +6,7 @@ ghost use Rattle.response.specs.Words.{listed_at, name_in, NameCopied, ListedIs,
 use crate::Status;
 
 // An entry of the table: a word, how many letters its name has, and the name with spaces after it.
-#[derive(Drop)]
+#[derive(Clone, Copy)]
 struct ListedWord {
     word: u16,
     len: usize,
@@ -123,14 +123,14 @@ const WORDS: [ListedWord; 21] = [
 ];
 
 // The place of a word in the table, counted from 0, if it is listed.
-#[derive(Drop)]
+#[derive(Clone, Copy)]
 pub enum Entry {
     Place(usize),
     None,
 }
 
 // How many bytes were copied; 16 if the name is longer than the buffer.
-#[derive(Drop)]
+#[derive(Clone, Copy)]
 pub enum Copied {
     Bytes(usize),
     Refused(u8),
@@ -154,7 +154,8 @@ fn copy_name(entry: ListedWord, to: &mut [u8]) -> Copied
         return Copied::Refused(16);
     }
     let letters = entry.letters;
-    Copied::Bytes(bytes::copy(&letters[..len], to))
+    to[..len].copy_from_slice(&letters[..len]);
+    Copied::Bytes(len)
 }
 
 impl Status {

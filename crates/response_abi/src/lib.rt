@@ -1,6 +1,8 @@
 // What a host program calls of the crate `response`, in numbers (rules 13.1 to 13.6). Each function returns 0, or the
 // number of a refusal (docs/RULES.md, section 1). It writes its numbers to the front of the slice `out`, unless it
 // refuses.
+#![tactic(auto)]
+
 ghost use Rattle.std.specs.Prelude.{◌≡◌};
 ghost use Rattle.abi.specs.Answers.{NumbersWritten, ReplyCopied, or_none};
 ghost use Rattle.response.specs.Response.{as_reply};

@@ -28,7 +28,7 @@ use Rattle.builder_laws.proofs.Read.{built_read}
 use Rattle.builder_laws.proofs.LeWritten.{lowered_expected, lowered_written}
 use Rattle.splitter.specs.Step.{most_data, first_of}
 use Rattle.splitter.specs.Pieces.{Part, parts, piece_of, pieces_of}
-use Rattle.splitter_laws.proofs.Cut.{room-is, cut}
+use Rattle.splitter_laws.proofs.Cut.{room_is, cut}
 use Rattle.reassembler.specs.Join.{continues, held_len, extended_in, chain_after, join_of}
 use Rattle.reassembler.specs.declared.Reassembler.{Reassembler}
 use Rattle.reassembler.specs.declared.Reassembler.TheVariants.{Closed, Open}
@@ -171,7 +171,7 @@ cut_sends b d m ten few =
     cut m ten (λ b d ps. length d ≤ 65535 → Sends b d ps)
     (λ b d h few. record {
       some_part = omega arith;
-      single = λ _. omega (arith, room-is b (length d) m);
+      single = λ _. omega (arith, room_is b (length d) m);
       sent = λ s r room ready left. whole_sent b d few s r room ready left;
     })
     (λ b d k ps e g h f few.

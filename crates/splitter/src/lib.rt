@@ -1,6 +1,8 @@
 // Cutting a command that is too long for a buffer: one step in every mode (step.rt), and all its pieces in short mode,
 // one at a time (pieces.rt). Rules 4.1 to 4.10 and 12.10.
 // Ported, with changes, from src/command.rs of the crate iso7816 0.2.2 (see NOTICE).
+#![tactic(auto)]
+
 mod pieces;
 mod step;
 

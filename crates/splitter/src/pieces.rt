@@ -7,7 +7,7 @@ use crate::step::{ShouldSplit, Split, should_split};
 use builder::{Built, CommandBuilder, ExpectedLen, ExtendedLen, Length};
 
 // What is left of a command: its builder, the place where the data that are left start, and how long a piece may be.
-#[derive(Drop)]
+#[derive(Clone, Copy)]
 pub struct Left {
     pub builder: CommandBuilder,
     pub at: usize,
@@ -15,21 +15,21 @@ pub struct Left {
 }
 
 // The pieces that are still to come: some of the command is left, or nothing.
-#[derive(Drop)]
+#[derive(Clone, Copy)]
 pub enum Pieces {
     Left(Left),
     Done,
 }
 
 // All pieces of a command, or the refusal: 3, 13, and 14 for a buffer under 10 (rule 4.7).
-#[derive(Drop)]
+#[derive(Clone, Copy)]
 pub enum NewPieces {
     Pieces(Pieces),
     Refused(u8),
 }
 
 // A piece: its builder, place and length of its data, and the pieces after it.
-#[derive(Drop)]
+#[derive(Clone, Copy)]
 pub struct Piece {
     pub builder: CommandBuilder,
     pub at: usize,
@@ -38,7 +38,7 @@ pub struct Piece {
 }
 
 // The next piece, none left, or the refusal: 13 for data above 65,535 bytes, 14 for a buffer in which no data fit.
-#[derive(Drop)]
+#[derive(Clone, Copy)]
 pub enum NextPiece {
     Piece(Piece),
     NoneLeft,
@@ -46,14 +46,14 @@ pub enum NextPiece {
 }
 
 // How many bytes a piece takes in the buffer, and the pieces after it.
-#[derive(Drop)]
+#[derive(Clone, Copy)]
 pub struct Written {
     pub len: usize,
     pub rest: Pieces,
 }
 
 // The next piece is written, none is left, or the refusal: as for the next piece, or 16 if it does not fit the buffer.
-#[derive(Drop)]
+#[derive(Clone, Copy)]
 pub enum WriteNext {
     Written(Written),
     NoneLeft,

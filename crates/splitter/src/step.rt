@@ -6,7 +6,7 @@ ghost use Rattle.splitter.specs.Step.{most_data, room_in, first_of, ShouldSplitI
 use builder::{CommandBuilder, ExpectedLen, ExtendedLen, Length};
 
 // The builder of the first part and how many bytes of the data it takes, and the builder of the rest.
-#[derive(Drop)]
+#[derive(Clone, Copy)]
 pub struct Split {
     pub first: CommandBuilder,
     pub len: usize,
@@ -15,7 +15,7 @@ pub struct Split {
 
 // The command fits as it is, or is split, or the refusal: 13 for data above 65,535 bytes, 14 for a buffer without room
 // for data (rule 4.6).
-#[derive(Drop)]
+#[derive(Clone, Copy)]
 pub enum ShouldSplit {
     Whole,
     Split(Split),

@@ -1,5 +1,7 @@
 // What a host program calls to cut a command: one step, whether its pieces can be made, and the next piece (rule 12.6).
 // Each function replies 0, or the number of a refusal. Numbers are written into the slice `out` only if it replies 0.
+#![tactic(auto)]
+
 ghost use Rattle.std.specs.Prelude.{◌≡◌};
 ghost use Rattle.abi.specs.Answers.{NumbersWritten};
 ghost use Rattle.splitter.specs.Step.{as_reply as splitAsReply};

@@ -24,7 +24,7 @@ use Rattle.splitter.specs.declared.pieces.Piece.{Piece}
 use Rattle.splitter.specs.declared.pieces.Pieces.{Pieces}
 use Rattle.splitter.specs.declared.pieces.Pieces.TheVariants as pieces
 use Rattle.splitter_laws.specs.Asked.{short_of, start_of, PiecesMade, bytes_in, answers, one_by_one, pieces_among, collected}
-use Rattle.splitter_laws.proofs.Cut.{step-whole, step-split, cut}
+use Rattle.splitter_laws.proofs.Cut.{step_whole, step_split, cut}
 
 -- when pieces are made, and when that is refused: 3, 13, and 14 for a buffer under ten (rule 4.7)
 module _ (c i p q n e m : ℕ) where
@@ -88,7 +88,7 @@ module _ (d : List ℕ) (m : ℕ) (few : length d ≤ 65535) (ten : 10 ≤ m) (b
     unfolding next_left_of
     ask_whole h =
         let n = length (drop at d) in
-        rw (le-ltb 65535 (length d) few, min-eq_left inside, step-whole b n m (omega (arith, length-drop at d)) (omega arith) h)
+        rw (le-ltb 65535 (length d) few, min-eq_left inside, step_whole b n m (omega (arith, length-drop at d)) (omega arith) h)
 
     ask_split : (r : ℕ) → r ≡ room_of b (length (drop at d)) m → 1 ≤ r → r < length (drop at d)
         → next_of (left_at b at m) d
@@ -99,7 +99,7 @@ module _ (d : List ℕ) (m : ℕ) (few : length d ≤ 65535) (ten : 10 ≤ m) (b
         rw (
           le-ltb 65535 (length d) few,
           min-eq_left inside,
-          step-split b n m (omega (arith, length-drop at d)) (omega arith) (omega arith) (λ z. omega arith),
+          step_split b n m (omega (arith, length-drop at d)) (omega arith) (omega arith) (λ z. omega arith),
           e,
         )
 

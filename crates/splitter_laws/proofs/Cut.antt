@@ -17,7 +17,7 @@ use Rattle.builder_laws.proofs.Cases.{le_none, lc_long, le_long}
 use Rattle.splitter.specs.Step.{room_of, first_of, step_of}
 use Rattle.splitter.specs.Pieces.{Part, parts_by, parts_in, parts}
 use Rattle.splitter.specs.declared.step.Split.{Split}
-pub use Rattle.splitter.proofs.Steps.{room-is, room-not-zero, step-whole, step-split, never-refused}
+pub use Rattle.splitter.proofs.Steps.{room_is, room_not_zero, step_whole, step_split, never_refused}
 use Rattle.splitter_laws.specs.Cut.{split_of, Stepped}
 
 module _ (b : CommandBuilder) (n m : ℕ) where
@@ -38,8 +38,8 @@ module _ (b : CommandBuilder) (n m : ℕ) where
 pub room_261 : (b : CommandBuilder) (n : ℕ) → b.mode ≡ Unsupported → 255 < n
     → (le_written b ≡ 0 → room_of b n 261 ≡ 254) × (1 ≤ le_written b → room_of b n 261 ≡ 252)
 room_261 b n m h = (
-  λ e. rw (room-is b n 261, lc_long b n h, le_none b n e, m),
-  λ e. rw (room-is b n 261, lc_long b n h, le_long b n h e, m),
+  λ e. rw (room_is b n 261, lc_long b n h, le_none b n e, m),
+  λ e. rw (room_is b n 261, lc_long b n h, le_long b n h e, m),
 )
 
 -- the parts that a step gives depend on the parts of the rest only
@@ -97,12 +97,12 @@ module _ (m : ℕ) (ten : 10 ≤ m) (P : CommandBuilder → List ℕ → List Pa
       let n = length d in
       let r = room_of b n m in
       elim (dec_le n r) [
-        | yes g ↦ rw (parts_whole b d m (step-whole b n m few (omega arith) g)) (whole b d g)
+        | yes g ↦ rw (parts_whole b d m (step_whole b n m few (omega arith) g)) (whole b d g)
         | no g ↦
-            let some = room-not-zero b n m ten in
+            let some = room_not_zero b n m ten in
             let left = length-drop r d in
             let rest = cut_in k (lowered_of b) (drop r d) (omega arith) (omega arith) in
-            rw (parts_split b d m (split_of b n m) (step-split b n m few (omega arith) (omega arith) (λ z. omega arith)))
+            rw (parts_split b d m (split_of b n m) (step_split b n m few (omega arith) (omega arith) (λ z. omega arith)))
             (split b d r (parts (lowered_of b) (drop r d) m) refl some (omega arith) rest)
       ]
 

@@ -19,7 +19,7 @@ use Rattle.splitter.specs.Step.{most_data, room_of, first_of}
 use Rattle.splitter.specs.Pieces.{Part, parts, piece_of, pieces_of}
 use Rattle.basis.specs.Every.{Every}
 use Rattle.splitter_laws.specs.Parts.{data_of, Front, Last, FrontsAndLast, RefusedBy}
-use Rattle.splitter_laws.proofs.Cut.{room-is, step-whole, parts_whole, cut}
+use Rattle.splitter_laws.proofs.Cut.{room_is, step_whole, parts_whole, cut}
 use Rattle.basis.proofs.Every.{every_weaken}
 
 -- a command whose data the room covers fits, and so does the first part of one with more data
@@ -27,7 +27,7 @@ module _ (b : CommandBuilder) (d : List ℕ) (m : ℕ) (ten : 10 ≤ m) where
   whole_fits : length d ≤ room_of b (length d) m → length (command_of b d) ≤ m
   whole_fits h =
       let n = length d in
-      omega (arith, length_command b d, required_is b n, room-is b n m, lengths_few b n)
+      omega (arith, length_command b d, required_is b n, room_is b n m, lengths_few b n)
 
   first_fits : (r : ℕ) → r ≡ room_of b (length d) m → 1 ≤ r → r < length d → length (command_of (first_of b) (take r d)) ≤ m
   first_fits r e g h =
@@ -39,7 +39,7 @@ module _ (b : CommandBuilder) (d : List ℕ) (m : ℕ) (ten : 10 ≤ m) where
         arith,
         length_command (first_of b) (take r d),
         required_is (first_of b) k,
-        room-is b n m,
+        room_is b n m,
         le_none (first_of b) k none,
         lc_part (first_of b) b k n refl none (omega arith),
       )
@@ -61,8 +61,8 @@ pub unsplit : (b : CommandBuilder) (d : List ℕ) (m : ℕ) → (b.mode ≡ Unsu
 unsplit b d m h few l =
     let n = length d in
     let size : 4 + lc_len b n + n + le_len b n ≤ m = omega (arith, length_command b d, required_is b n) in
-    let covers : n ≤ room_of b n m = omega (arith, room-is b n m, most_enough b.mode n h few) in
-    rw (parts_whole b d m (step-whole b n m few (omega arith) covers))
+    let covers : n ≤ room_of b n m = omega (arith, room_is b n m, most_enough b.mode n h few) in
+    rw (parts_whole b d m (step_whole b n m few (omega arith) covers))
 
 -- the data of the parts joined are the data (rule 4.8)
 pub joined : (b : CommandBuilder) (d : List ℕ) (m : ℕ) → 10 ≤ m → length d ≤ 65535 → data_of (parts b d m) ≡ d
@@ -92,7 +92,7 @@ module _ (b : CommandBuilder) (d : List ℕ) (m : ℕ) where
         le = λ q n. absurd (n refl);
         shows = refl;
         some = λ s. s;
-        few = omega (arith, room-is b (length d) m);
+        few = omega (arith, room_is b (length d) m);
       } in
       ([], record { builder = b; «data» = d }, refl, tt, last)
 
@@ -104,7 +104,7 @@ module _ (b : CommandBuilder) (d : List ℕ) (m : ℕ) where
         chained = omega arith;
         no_le = refl;
         some = omega arith;
-        few = omega (arith, room-is b (length d) m);
+        few = omega (arith, room_is b (length d) m);
       }
 
 -- a part before the last of the rest is one of the whole

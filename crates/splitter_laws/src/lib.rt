@@ -1,1 +1,3 @@
 // Theorems about cutting a command: see specs/ and proofs/. This crate has no code.
+
+#![tactic(auto)]

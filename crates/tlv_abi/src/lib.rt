@@ -1,6 +1,8 @@
 // What a host program calls to read a tag, a length or an object, to copy a value, and to write an object. Each
 // function returns 0, or the number of a refusal (docs/RULES.md, section 1). It writes its numbers to the front of the
 // slice `out`, unless it refuses; for an object and a value also if it refuses with 11 or 12 (rule 15.7).
+#![tactic(auto)]
+
 ghost use Rattle.abi.specs.Answers.{NumbersWritten, NumbersOf, RowTold};
 ghost use Rattle.tlv.specs.Tag as tag;
 ghost use Rattle.tlv.specs.Len as len;

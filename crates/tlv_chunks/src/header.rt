@@ -6,7 +6,7 @@ use tlv::{crate_tag_size, crate_third_byte};
 
 // What was read of a header: the first byte of a tag that has more; its first two bytes, of three; the whole tag; the
 // tag and 81; the tag and 82; the tag, 82 and one byte. A whole tag is kept as its number.
-#[derive(Drop)]
+#[derive(Clone, Copy)]
 pub enum Header {
     Tag1(u8),
     Tag2(u8, u8),
@@ -17,7 +17,7 @@ pub enum Header {
 }
 
 // A header and one byte more: it goes on; it is complete, with its tag and its length; it cannot be read.
-#[derive(Drop)]
+#[derive(Clone, Copy)]
 pub enum HeaderByte {
     More(Header),
     Complete(u32, u16),

@@ -7,7 +7,7 @@ use crate::header::{Header, HeaderByte, first_byte, next_byte};
 // Where the walk is. Boundary: no byte of an object is read. Header: in a header, of which one byte or more is read.
 // Value: in a value, of which so many bytes and one more are missing. End: stopped with 11. Unreadable: stopped with
 // 12, also because the record was closed in an object. It depends on the bytes so far alone (rule 18.5).
-#[derive(Drop)]
+#[derive(Clone, Copy)]
 pub enum ChunkWalk {
     Boundary,
     Header(Header),
@@ -19,7 +19,7 @@ pub enum ChunkWalk {
 // What is replied to a chunk. NeedMore: nothing yet, and the chunk is used up. Head: a tag, and the length of its
 // value, which is not 0. Empty: a tag with a value of no bytes, head and end in one. ValueEnd: the value is complete.
 // End: 11. Unreadable: 12.
-#[derive(Drop)]
+#[derive(Clone, Copy)]
 pub enum TakeChunk {
     NeedMore,
     Head(u32, u16),
@@ -30,7 +30,7 @@ pub enum TakeChunk {
 }
 
 // The answer to a chunk, how many of its bytes were taken, and the walk after them.
-#[derive(Drop)]
+#[derive(Clone, Copy)]
 pub struct ChunkTaken {
     pub answer: TakeChunk,
     pub taken: usize,

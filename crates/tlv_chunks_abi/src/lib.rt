@@ -2,6 +2,8 @@
 // out of it as three numbers: kind, tag and number. Each function returns 0, or the number of a refusal, and writes 8
 // numbers to the front of the slice `out`, with 11 and 12 too. If `out` is too short nothing is written: 16, but 11 and
 // 12 are returned all the same (rule 1.22).
+#![tactic(auto)]
+
 ghost use Rattle.std.specs.Prelude.{◌≡◌, ◌+◌, ◌*◌};
 ghost use Rattle.tlv_chunks.specs.Call.{events_of};
 ghost use Rattle.tlv_chunks_abi.specs.Numbers.{length_by_numbers, header_by_numbers, walk_by_numbers, header_numbers, walk_numbers};

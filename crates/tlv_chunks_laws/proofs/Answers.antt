@@ -36,7 +36,7 @@ after_byte_lem w v b s [] c f t =
     record {
       run_of_taken = f (take c.taken s) ∙ t.run_of_taken;
       fewest = record {
-        not_before = λ k. elim k [
+        not_before = λ k. elim k as (λ i. i < suc c.taken → (run w (take i (b ∷ s))).tells ≡ []) [
           | zero ↦ λ h. ap (λ (r : Step). r.tells) (run_nothing w)
           | suc n ↦ λ h. ap (λ (r : Step). r.tells) (f (take n s)) ∙ few.not_before n (omega (arith, h))
         ];
@@ -48,7 +48,7 @@ after_byte_lem w v b s (e ∷ ts) c f t =
     record {
       run_of_taken = f [] ∙ ap (following (e ∷ ts)) (run_nothing v) ∙ (λ i. record { tells = append-nil (e ∷ ts) i; walk = v });
       fewest = record {
-        not_before = λ k. elim k [ zero ↦ λ h. ap (λ (r : Step). r.tells) (run_nothing w) | suc n ↦ λ h. absurd (omega (arith, h)) ];
+        not_before = λ k. elim k as (λ i. i < 1 → (run w (take i (b ∷ s))).tells ≡ []) [ zero ↦ λ h. ap (λ (r : Step). r.tells) (run_nothing w) | suc n ↦ λ h. absurd (omega (arith, h)) ];
         all = λ h. absurd (cons-ne-nil e ts h);
         within = omega arith;
       };

@@ -13,7 +13,7 @@ use tlv::{Reading, TakeDataObject, take_data_object};
 
 // How many bytes were written; refused if the record is above 65,535 bytes or has more than 255 objects (24), or if the
 // index does not fit from the place (16).
-#[derive(Drop)]
+#[derive(Clone, Copy)]
 pub enum BuildIndex {
     Written(usize),
     Refused(u8),
@@ -21,7 +21,7 @@ pub enum BuildIndex {
 
 // How many objects a record has, and the place of its end (11) or of the first object that cannot be read (12); or it
 // has more than 255.
-#[derive(Drop)]
+#[derive(Clone, Copy)]
 pub enum Counted {
     End(usize, usize),
     Unreadable(usize, usize),

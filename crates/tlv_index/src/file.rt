@@ -5,7 +5,7 @@ ghost use Rattle.tlv_index.specs.File.{file_size, is_reason, ends_as, counts_agr
 use crate::numbers::two_bytes;
 
 // How many entries the file has; refused if it has another form (25).
-#[derive(Drop)]
+#[derive(Clone, Copy)]
 pub enum CheckIndex {
     Entries(usize),
     Refused(u8),

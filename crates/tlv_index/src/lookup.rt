@@ -13,7 +13,7 @@ use tlv::{GetDataObject, Reading, get_data_object};
 // The place of a value, and its length; the end was reached (11), and its place; an object that cannot be read (12),
 // and its place. Places count from the start of the record. The last number of each is how many tags of the path
 // matched. Refused if the file has another form, or if the entry used lies outside of the record (25).
-#[derive(Drop)]
+#[derive(Clone, Copy)]
 pub enum GetIndexed {
     Value(usize, usize, usize),
     End(usize, usize),
@@ -23,7 +23,7 @@ pub enum GetIndexed {
 
 // What an index has for a tag: the place of the value and its length; or the end that it keeps, 11 or 12, and its
 // place.
-#[derive(Drop)]
+#[derive(Clone, Copy)]
 pub enum Sought {
     Value(usize, usize),
     End(usize),

@@ -1,6 +1,8 @@
 // What a host program calls to build an index, to check the form of an index file, and to look a path up through it.
 // Each function returns 0, or the number of a refusal (docs/RULES.md, section 1). It writes its numbers to the front of
 // the slice `out`, unless it refuses; a lookup also if it refuses with 11 or 12 (rule 15.7).
+#![tactic(auto)]
+
 ghost use Rattle.abi.specs.Answers.{NumbersWritten};
 ghost use Rattle.tlv_index_abi.specs.Told.{IndexBuilt, check_index_reply, IndexedTold};
 

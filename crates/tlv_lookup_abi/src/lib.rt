@@ -1,5 +1,7 @@
 // What a host program calls to look a path up: the place and the length of the value, or where the lookup ended. The
 // function returns 0, or the number of a refusal (docs/RULES.md, section 1).
+#![tactic(auto)]
+
 ghost use Rattle.abi.specs.Answers.{RowTold};
 ghost use Rattle.tlv_lookup_abi.specs.Place.{get_data_object_row};
 

@@ -1,12 +1,14 @@
 // BER objects written: the tag, the shortest length, and the value, each straight into the output (rule 12.15).
 // Ported, with changes, from src/tlv.rs of the crate iso7816 0.2.2 (see NOTICE).
+#![tactic(auto)]
+
 ghost use Rattle.std.specs.Prelude.{◌≡◌, ◌+◌, ◌≤◌, length};
 ghost use Rattle.basis.specs.Over.{over, over_at};
 ghost use Rattle.tlv_write.specs.Written.{tag_bytes, len_bytes, object_bytes, PutDataObjectIs};
 
 // How many bytes were written; refused if the value is above 65,535 bytes (19) or the object does not fit from the
 // place (16).
-#[derive(Drop)]
+#[derive(Clone, Copy)]
 pub enum PutDataObject {
     Written(usize),
     Refused(u8),
@@ -86,7 +88,7 @@ fn put_value(value: &[u8], part: &mut [u8])
     requires { length value.now ≤ length part.old }
     ensures { part.new ≡ over value.now part.old }
 {
-    bytes::copy(value, part);
+    part[..value.len()].copy_from_slice(value);
 }
 
 // Writes an object that fits: tag, length and value, each into the part of the buffer that starts at its place.

@@ -3,7 +3,7 @@ use crate::{report, text};
 use tlv_chunks::{ChunkWalk, Header, TakeChunk};
 
 // A walk, and the place up to which what was printed is expected.
-#[derive(Drop)]
+#[derive(Clone, Copy)]
 struct Shown {
     walk: ChunkWalk,
     at: usize,

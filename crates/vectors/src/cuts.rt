@@ -4,7 +4,7 @@ use splitter::{NewPieces, Pieces, WriteNext};
 
 // What is printed of a cut: how many pieces; how many data bytes the first, the last and all have; the length of the
 // longest.
-#[derive(Drop)]
+#[derive(Clone, Copy)]
 struct Cut {
     pieces: usize,
     first: usize,

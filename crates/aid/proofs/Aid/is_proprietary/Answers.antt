@@ -1,0 +1,8 @@
+use borrow.Author.Rules.{rules}
+use native.Mathlib.Omega.{arith}
+use Rattle.aid.specs.Category.{proprietary}
+use Rattle.aid.proofs.Categories.{same_category}
+use Rattle.aid.proofs.Aid.is_proprietary.Goals as goal
+
+pub returns : goal.returns
+returns c = same_category c.args.self _ proprietary _ c.is_in.ensures (omega arith)

@@ -1,0 +1,17 @@
+use borrow.Author.Rules.{rules}
+use mathlib.Core.Path.{sym, ap, ◌∙◌}
+use Rattle.abi.proofs.AnswerLaws.{refusal_written}
+use Rattle.builder.specs.Bytes.{as_reply}
+use Rattle.builder_abi.proofs.write_required_len.Goals as goal
+
+pub returns-in-Refused : goal.returns-in-Refused
+returns-in-Refused c = rw c.in-Refused.is (refusal_written _ _ _ _ c.refusal_status.ensures)
+
+pub returns-in-Refused-required_len : goal.returns-in-Refused-required_len
+returns-in-Refused-required_len c =
+    rw (c.in-Builder.is, sym c.required_len.ensures ∙ ap as_reply c.in-Refused-required_len.is)
+    (refusal_written _ _ _ _ c.refusal_status-in-Refused-required_len.ensures)
+
+pub returns-in-Bytes : goal.returns-in-Bytes
+returns-in-Bytes c =
+    rw (c.in-Builder.is, sym c.required_len.ensures ∙ ap as_reply c.in-Bytes.is) c.write_numbers.ensures

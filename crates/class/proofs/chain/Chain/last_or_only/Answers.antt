@@ -1,0 +1,14 @@
+use borrow.Author.Rules.{rules}
+use native.Mathlib.Omega.{arith}
+use Rattle.basis.proofs.Truth.{number_is, number_is_not}
+use Rattle.class.specs.Chain.{last_or_only, chain_as_number}
+use Rattle.class.proofs.chain.Chain.last_or_only.Goals as goal
+
+pub returns-in-LastOrOnly : goal.returns-in-LastOrOnly
+returns-in-LastOrOnly c = number_is chain_as_number last_or_only c.in-LastOrOnly.is (omega arith)
+
+pub returns-in-NotTheLast : goal.returns-in-NotTheLast
+returns-in-NotTheLast c = number_is_not chain_as_number last_or_only c.in-NotTheLast.is (omega arith)
+
+pub returns-in-Unknown : goal.returns-in-Unknown
+returns-in-Unknown c = number_is_not chain_as_number last_or_only c.in-Unknown.is (omega arith)

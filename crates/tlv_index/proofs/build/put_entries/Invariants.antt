@@ -1,0 +1,31 @@
+use borrow.Author.Rules.{rules}
+use Prim.Native.Nat.{ℕ, ◌+◌, ◌-◌, ◌≤◌, ◌<◌}
+use native.Mathlib.Omega.{arith}
+use mathlib.Core.Path.{◌≡◌, refl, sym, ap, ◌∙◌}
+use mathlib.Core.List.{List, ◌∷◌, map}
+use lib.ListN.{length, drop}
+use Rattle.basis.specs.Reply.{ok, refused}
+use Rattle.basis.proofs.Reply.{matched_reply}
+use Rattle.tlv.specs.Object.{Item, Stop, object_at, as_reply}
+use Rattle.tlv.specs.Walk.{Walk, walk}
+use Rattle.tlv.specs.declared.Reading.TheVariants.{Crate}
+use Rattle.tlv_index.specs.Index.{Entry, entry_of}
+use Rattle.tlv_index.specs.Steps.{entries_put}
+use Rattle.tlv_index.proofs.Walks.{stops_here, item_ends, goes_on}
+use Rattle.tlv_index.proofs.Sections.{put_none, put_next}
+use Rattle.tlv_index.proofs.build.put_entries.Given as goal
+
+-- the walk from a place of the record on, and its entries
+abbrev pub from : List ℕ → ℕ → Walk
+from s a = walk Crate a (drop a s)
+
+abbrev pub entries : List ℕ → ℕ → List Entry
+entries s a = map entry_of (from s a).items
+
+-- the invariant: i entries were written, and the entries from place `at` on are left to be written
+abbrev pub invariant-loop-tag : goal.invariant-loop-tag
+invariant-loop-tag l = (l.at ≤ length l.record) × (l.i + length (from l.record l.at).items ≡ l.n) × (length l.file ≡ length l.initial.file)
+    × (entries_put 2 l.n l.i (entries l.record l.at) l.file ≡ entries_put 2 l.n 0 (entries l.record 0) l.initial.file)
+
+abbrev pub decreases-loop-tag : goal.decreases-loop-tag
+decreases-loop-tag l = length l.record - l.at

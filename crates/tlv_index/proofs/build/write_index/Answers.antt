@@ -1,0 +1,27 @@
+use borrow.Author.Rules.{rules}
+use native.Mathlib.Omega.{arith}
+use mathlib.Core.List.{List}
+use Rattle.basis.proofs.Over.{lent}
+use Rattle.tlv.specs.Object.{Item}
+use Rattle.tlv.specs.Walk.{walk}
+use Rattle.tlv.specs.declared.Reading.TheVariants.{Crate}
+use Rattle.tlv_index.specs.File.{file_of}
+use Rattle.tlv_index.specs.Steps.{index_to}
+use Rattle.tlv_index.proofs.Builds.{size, no_room, has_room}
+use Rattle.tlv_index.proofs.build.write_index.Goals as goal
+
+pub returns-then-buffer-at : goal.returns-then-buffer-at
+returns-then-buffer-at c =
+    no_room (((walk Crate 0 c.args.«record».now).items)) _ _ _ c.requires.0 _ _ (omega (arith, c.if-buffer-at.true))
+
+pub returns-then-buffer-at-2 : goal.returns-then-buffer-at-2
+returns-then-buffer-at-2 c =
+    no_room (((walk Crate 0 c.args.«record».now).items)) _ _ _ c.requires.0 _ _ (omega (arith, c.if-buffer-at-2.true, c.if-buffer-at.false))
+
+pub returns : goal.returns
+returns c =
+    let a = c.args in
+    let long = size (((walk Crate 0 c.args.«record».now).items)) a.reason a.place a.n c.requires.0 a.buffer.now a.at in
+    has_room (((walk Crate 0 c.args.«record».now).items)) _ _ _ c.requires.0 _ _ _ (omega (arith, c.if-buffer-at-2.false, c.if-buffer-at.false))
+    (lent a.buffer.now a.at (file_of 2 (index_to (((walk Crate 0 c.args.«record».now).items)) a.reason a.place)) _ (omega (arith, c.if-buffer-at-2.false, c.if-buffer-at.false, long))
+    c.put_index.ensures)
