@@ -1,6 +1,6 @@
 -- What `read_profile`, `serial` and `put_profile` answer, in plain words, over their promises (rules 19.1 to 19.5, 19.9
 -- and 19.10).
-use Prim.Native.Nat.{ℕ, ◌+◌, ◌-◌, ◌≤◌, ◌<◌}
+use Prim.Native.Nat.{ℕ, ◌+◌, ◌≤◌, ◌<◌}
 use mathlib.Core.Path.{◌≡◌, refl, sym, ap, ◌∙◌}
 use mathlib.Core.Logic.{◌↔◌, ◌⊎◌, inl, inr}
 use mathlib.Core.List.{List, [], ◌++◌}

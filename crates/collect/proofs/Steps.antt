@@ -21,7 +21,7 @@ use Rattle.response.specs.declared.Response.{Response}
 use Rattle.response.specs.declared.Answer.{Answer}
 use Rattle.response.specs.declared.Answer.TheVariants as answer
 use Rattle.response.proofs.Splitting.{append_22, append_23, append_ok}
-use Rattle.collect.specs.Collect.{expected_by, get_response, builder_of, again, next_of, Going, send, done, going_by}
+use Rattle.collect.specs.Collect.{expected_by, get_response, builder_of, again, next_of, Going, going_by}
 use Rattle.collect.specs.Collect.{step_of, step_room, next_as_option, StepIs}
 use Rattle.collect.specs.declared.Sent.{Sent}
 use Rattle.collect.specs.declared.Sent.TheVariants.{GetResponse}

@@ -4,15 +4,14 @@ use mathlib.Core.Path.{◌≡◌, refl, sym, ap, ◌∙◌}
 use mathlib.Core.List.{List, [], ◌∷◌, ◌++◌, append-nil, append_assoc}
 use native.Mathlib.Nat.{add-zero}
 use native.Mathlib.Omega.{arith}
-use lib.Dec.{ltb, leb, eqb}
+use lib.Dec.{leb}
 use lib.ListN.{length, get_or, take, drop}
 use lib.Seq.{drop-drop, get_or-drop}
-use borrow.Author.Tests.{eqb-true, ltb-false}
 use Rattle.basis.specs.Every.{Every}
 use Rattle.basis.specs.Number.{Bytes}
 use Rattle.basis.specs.Reply.{Reply, ok, refused, then}
 use Rattle.basis.proofs.Reply.{All, all_is, all_cond, all_then, all_every}
-use Rattle.tlv.specs.Tag.{Tag, tag_size, third_byte, three_bytes, long_tag, tag_of}
+use Rattle.tlv.specs.Tag.{Tag, tag_of}
 use Rattle.tlv.specs.Len.{len_of}
 use Rattle.tlv.specs.Object.{Object, object_in, object_of, size_of}
 use Rattle.tlv.specs.Walk.{walk}

@@ -2,11 +2,11 @@
 -- 18.4). The statements are over the promise of `take`.
 use Prim.Native.Nat.{ℕ, zero, suc, ◌≤◌, ◌<◌}
 use mathlib.Core.Path.{◌≡◌, refl, sym, ap, subst, ◌∙◌}
-use mathlib.Core.List.{List, [], ◌∷◌, ◌++◌, append-nil, cons-ne-nil}
-use mathlib.Core.Option.{none, some}
+use mathlib.Core.List.{List, [], ◌∷◌, append-nil, cons-ne-nil}
+use mathlib.Core.Option.{none}
 use native.Mathlib.Omega.{arith}
 use lib.ListN.{length, take}
-use Rattle.tlv_chunks.specs.Run.{Event, refusal, Step, nothing, following, step, run}
+use Rattle.tlv_chunks.specs.Run.{Event, refusal, Step, following, step, run}
 use Rattle.tlv_chunks.specs.Call.{Call, after_byte, up_to_reply, repeated, take_of, events_of, call_of, TakeIs}
 use Rattle.tlv_chunks.specs.declared.walk.ChunkWalk.{ChunkWalk}
 use Rattle.tlv_chunks.specs.declared.walk.ChunkWalk.TheVariants.{Boundary, Header, Value, End, Unreadable}

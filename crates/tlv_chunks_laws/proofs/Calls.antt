@@ -1,8 +1,8 @@
 -- What a call says of the bytes that it took, for every state and chunk (rules 18.1, 18.5 and 18.7).
-use Prim.Native.Nat.{ℕ, zero, suc, ◌≤◌}
+use Prim.Native.Nat.{ℕ, zero, suc}
 use mathlib.Core.Path.{◌≡◌, refl, sym, ap, subst, ◌∙◌}
 use mathlib.Core.List.{List, [], ◌∷◌, ◌++◌, cons-ne-nil}
-use mathlib.Core.Option.{none, some}
+use mathlib.Core.Option.{some}
 use native.Mathlib.Omega.{arith}
 use lib.ListN.{drop}
 use Rattle.tlv_chunks.specs.Header.{byte_of}

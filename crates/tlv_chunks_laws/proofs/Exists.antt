@@ -1,6 +1,6 @@
 -- Every record in any chunks has its answers: there is a session for all chunks, from every state (rule 18.1). So the
 -- theorems about sessions speak of every division.
-use Prim.Native.Nat.{ℕ, zero, suc, ◌≤◌, ◌<◌}
+use Prim.Native.Nat.{ℕ, zero, suc, ◌≤◌}
 use mathlib.Core.Path.{◌≡◌, refl, sym, ap, subst, ◌∙◌}
 use mathlib.Core.List.{List, [], ◌∷◌, cons-ne-nil}
 use mathlib.Core.Option.{none}

@@ -1,8 +1,8 @@
 -- The states that a record leads to: at a boundary, in a header of 1 to 5 bytes, in a value of which 1 to 65,535 bytes
 -- are missing, or stopped with 12 (rules 18.2 and 18.5).
-use Prim.Native.Nat.{ℕ, zero, suc, ◌+◌, ◌*◌, ◌≤◌, ◌<◌}
-use mathlib.Core.Path.{◌≡◌, refl, sym, ap, subst, ◌∙◌}
-use mathlib.Core.List.{List, [], ◌∷◌, ◌++◌}
+use Prim.Native.Nat.{ℕ, zero, suc, ◌+◌, ◌≤◌}
+use mathlib.Core.Path.{◌≡◌, sym, ap, subst, ◌∙◌}
+use mathlib.Core.List.{List, [], ◌∷◌}
 use native.Mathlib.Omega.{arith}
 use lib.ListN.{length, drop, length-append, length-drop}
 use Rattle.basis.specs.Reply.{ok}
@@ -16,12 +16,11 @@ use Rattle.tlv.specs.declared.Reading.TheVariants.{Crate}
 use Rattle.tlv.proofs.Lengths.{by_length}
 use Rattle.tlv.proofs.Within.{tag_inside, Sized, len_within}
 use Rattle.tlv_write.specs.Written.{tag_bytes}
-use Rattle.tlv_chunks.specs.Run.{Step, run}
+use Rattle.tlv_chunks.specs.Run.{run}
 use Rattle.tlv_chunks.specs.declared.header.Header.{Header as Part}
 use Rattle.tlv_chunks.specs.declared.header.Header.TheVariants as part
-use Rattle.tlv_chunks.specs.declared.walk.ChunkWalk.{ChunkWalk}
 use Rattle.tlv_chunks.specs.declared.walk.ChunkWalk.TheVariants.{Boundary, Header, Value}
-use Rattle.tlv_chunks_laws.specs.Held.{own_bytes, header_bytes, Lacks, Means}
+use Rattle.tlv_chunks_laws.specs.Held.{own_bytes, header_bytes, Means}
 use Rattle.tlv_chunks_laws.proofs.Whole.{state_means, state_of_rest}
 
 -- a header has from 1 to 5 bytes, whatever its numbers are

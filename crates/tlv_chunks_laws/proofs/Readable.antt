@@ -1,8 +1,8 @@
 -- 12 comes at the first byte after which no more bytes can help, and not before (rule 18.4).
 use Prim.Native.Nat.{ℕ, zero, suc, ◌+◌, ◌*◌, ◌≤◌}
-use mathlib.Core.Path.{◌≡◌, refl, sym, ap, ◌∙◌}
+use mathlib.Core.Path.{◌≡◌, sym, ap, ◌∙◌}
 use mathlib.Core.List.{List, [], ◌∷◌, ◌++◌, append-nil}
-use mathlib.Core.Option.{none, some}
+use mathlib.Core.Option.{none}
 use native.Mathlib.Omega.{arith}
 use lib.ListN.{length, drop, drop_of_length-le}
 use Rattle.basis.specs.Number.{Bytes}
@@ -13,7 +13,7 @@ use Rattle.tlv.proofs.Tags.{crate_second_last, crate_third_low}
 use Rattle.tlv_laws.specs.Padding.{zero_bytes}
 use Rattle.tlv_laws.proofs.ZeroBytes.{zero_bytes_lem}
 use Rattle.tlv_chunks.specs.Header.{byte_of}
-use Rattle.tlv_chunks.specs.Run.{Event, Step, nothing, headed, following, run, closing}
+use Rattle.tlv_chunks.specs.Run.{Step, nothing, headed, following, run, closing}
 use Rattle.tlv_chunks.specs.declared.header.Header.{Header as Part}
 use Rattle.tlv_chunks.specs.declared.header.Header.TheVariants as part
 use Rattle.tlv_chunks.specs.declared.header.HeaderByte.TheVariants as byte

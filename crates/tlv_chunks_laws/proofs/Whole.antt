@@ -5,10 +5,9 @@ use mathlib.Core.Path.{◌≡◌, refl, sym, ap, subst, ◌∙◌}
 use mathlib.Core.Bool.{Bool, true, false}
 use mathlib.Core.List.{List, [], ◌∷◌, ◌++◌, append_assoc, append-nil}
 use native.Mathlib.Decide.{dec_le, ℕ_discrete}
-use native.Mathlib.Nat.{zero-add, add-zero}
 use native.Mathlib.Omega.{arith}
 use borrow.Author.Tests.{le-leb, lt-leb}
-use lib.ListN.{length, get_or, take, drop, length-drop, take-append-drop}
+use lib.ListN.{length, take, drop, length-drop, take-append-drop}
 use lib.Seq.{drop-drop}
 use Rattle.basis.specs.Reply.{Reply, ok, refused, then}
 use Rattle.basis.specs.Number.{Bytes, be}
@@ -28,16 +27,15 @@ use Rattle.tlv.proofs.Walk.{walk_refused, walk_met, by_objects}
 use Rattle.tlv_write.specs.Written.{tag_bytes}
 use Rattle.tlv_laws.proofs.ReadBack.{tag_bytes_lem}
 use Rattle.tlv_chunks.specs.Header.{first_of, byte_of}
-use Rattle.tlv_chunks.specs.Run.{Event, head, end, refusal, Step, nothing, headed, header_byte, step, following, run, closing}
+use Rattle.tlv_chunks.specs.Run.{Event, head, end, refusal, Step, nothing, headed, step, following, run, closing}
 use Rattle.tlv_chunks.specs.declared.header.Header.{Header as Part}
 use Rattle.tlv_chunks.specs.declared.header.Header.TheVariants as part
-use Rattle.tlv_chunks.specs.declared.header.HeaderByte.{HeaderByte}
 use Rattle.tlv_chunks.specs.declared.header.HeaderByte.TheVariants as byte
 use Rattle.tlv_chunks.specs.declared.walk.ChunkWalk.{ChunkWalk}
 use Rattle.tlv_chunks.specs.declared.walk.ChunkWalk.TheVariants.{Boundary, Header, Value, End, Unreadable}
 use Rattle.tlv_chunks.proofs.Headers as header
 use Rattle.tlv_chunks_laws.specs.Session.{stopped_by, once_after}
-use Rattle.tlv_chunks_laws.specs.Whole.{objects_tell, head_of_len, head_of_tag, cut_head, whole_tells}
+use Rattle.tlv_chunks_laws.specs.Whole.{objects_tell, head_of_len, cut_head, whole_tells}
 use Rattle.tlv_chunks_laws.specs.Held.{own_bytes, header_bytes, Lacks, Means}
 use Rattle.tlv_chunks_laws.proofs.Runs.{run_nothing, run_byte, run_unreadable, value_whole, value_cut}
 

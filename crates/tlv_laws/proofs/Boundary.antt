@@ -17,7 +17,7 @@ use Rattle.basis.proofs.Number.{bytes_drop, bytes_take}
 use Rattle.basis.proofs.Truth.{on_cond}
 use Rattle.tlv.specs.Padding.{padding}
 use Rattle.tlv.specs.Tag.{Tag, tag_of, tag_alone}
-use Rattle.tlv.specs.Len.{Len, len_of}
+use Rattle.tlv.specs.Len.{len_of}
 use Rattle.tlv.specs.Object.{Object, object_of, Item, Stop, item_at, next_of, size_of}
 use Rattle.tlv.specs.Lookup.{Span, part, whole_record, seek, Found, follow, lookup}
 use Rattle.tlv.specs.declared.Reading.{Reading}

@@ -1,5 +1,4 @@
 use native.Mathlib.Omega.{arith}
-use borrow.Author.Rules.{rules}
 use mathlib.Core.Path.{sym, ap, ◌∙◌}
 use Rattle.basis.specs.Reply.{refused}
 use Rattle.aid.proofs.Making.{empty_name, too_long, truncated_above, under_five_by_first, from_five_bytes}

@@ -1,4 +1,3 @@
-use borrow.Author.Rules.{rules}
 use Rattle.aid_abi.specs.Numbers.{aid_reply}
 use Rattle.aid_abi.proofs.gorvisclen_aid.Goals as goal
 

@@ -1,4 +1,3 @@
-use borrow.Author.Rules.{rules}
 use Rattle.aid_abi.specs.Numbers.{aid_matches_reply}
 use Rattle.abi.proofs.AnswerLaws.{refusal_written}
 use Rattle.aid_abi.proofs.LentSlices.{name_makes, name_refused}

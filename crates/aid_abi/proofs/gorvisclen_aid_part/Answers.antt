@@ -1,4 +1,3 @@
-use borrow.Author.Rules.{rules}
 use Rattle.aid_abi.proofs.LentSlices.{name_makes, name_refused, refused_copies_nothing}
 use Rattle.aid_abi.proofs.gorvisclen_aid_part.Goals as goal
 

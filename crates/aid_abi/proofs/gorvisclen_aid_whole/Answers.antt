@@ -1,4 +1,3 @@
-use borrow.Author.Rules.{rules}
 use Rattle.aid_abi.specs.Numbers.{aid_reply, aid_whole_reply}
 use Rattle.aid_abi.proofs.gorvisclen_aid_whole.Goals as goal
 

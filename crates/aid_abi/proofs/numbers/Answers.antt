@@ -1,4 +1,3 @@
-use borrow.Author.Rules.{rules}
 use Rattle.aid_abi.specs.Numbers.{numbers_of}
 use Rattle.aid_abi.proofs.numbers.Goals as goal
 

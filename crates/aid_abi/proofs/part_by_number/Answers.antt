@@ -1,3 +1,4 @@
+use native.Mathlib.Omega.{arith}
 use borrow.Author.Tests.{ne_eqb}
 use Rattle.aid_abi.specs.Numbers.{part_by_number}
 use Rattle.aid_abi.proofs.part_by_number.Goals as goal
@@ -5,7 +6,7 @@ use Rattle.aid_abi.proofs.part_by_number.Goals as goal
 pub returns-in_default : goal.returns-in_default
 unfolding part_by_number
 returns-in_default c =
-    let r = c.in_default.rest in rw (ne_eqb _ _ r.0.0.1, ne_eqb _ _ r.0.1, ne_eqb _ _ r.1)
+    let n = c.args.part in rw (ne_eqb n 0 (omega arith), ne_eqb n 1 (omega arith), ne_eqb n 2 (omega arith))
 
 pub returns-in-0 : goal.returns-in-0
 unfolding part_by_number

@@ -1,4 +1,3 @@
-use borrow.Author.Rules.{rules}
 use Rattle.abi.proofs.AnswerLaws.{refusal_written}
 use Rattle.aid_abi.specs.Numbers.{numbers_of}
 use Rattle.aid_abi.proofs.write_made.Goals as goal

@@ -1,4 +1,3 @@
-use borrow.Author.Rules.{rules}
 use mathlib.Core.Path.{ap}
 use Rattle.command.specs.Command.{as_reply}
 use Rattle.basis.specs.Reply.{refused}

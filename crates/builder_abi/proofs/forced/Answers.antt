@@ -1,4 +1,3 @@
-use borrow.Author.Rules.{rules}
 use Rattle.builder_abi.proofs.forced.Goals as goal
 
 pub returns-in-Refused : goal.returns-in-Refused

@@ -1,4 +1,3 @@
-use borrow.Author.Rules.{rules}
 use Rattle.builder_abi.proofs.LentSlices.{equal_row}
 use Rattle.builder_abi.proofs.gorvisclen_builder_eq.Goals as goal
 

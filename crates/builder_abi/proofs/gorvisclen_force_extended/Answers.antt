@@ -1,4 +1,3 @@
-use borrow.Author.Rules.{rules}
 use Rattle.builder_abi.proofs.LentSlices.{forced_row}
 use Rattle.builder_abi.proofs.gorvisclen_force_extended.Goals as goal
 

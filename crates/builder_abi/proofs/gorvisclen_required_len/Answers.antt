@@ -1,4 +1,3 @@
-use borrow.Author.Rules.{rules}
 use Rattle.builder_abi.proofs.LentSlices.{required_row}
 use Rattle.builder_abi.proofs.gorvisclen_required_len.Goals as goal
 

@@ -1,4 +1,3 @@
-use borrow.Author.Rules.{rules}
 use mathlib.Core.Path.{ap}
 use Rattle.abi.proofs.AnswerLaws.{refusal_written}
 use Rattle.builder_compare.specs.Compare.{as_reply as equal_as_reply}

@@ -1,13 +1,7 @@
-use borrow.Author.Rules.{rules}
-use mathlib.Core.Path.{◌≡◌, refl, sym, ap, ◌∙◌}
-use mathlib.Core.Bool.{Bool, false, cond}
+use mathlib.Core.Path.{◌≡◌}
 use Prim.Native.Nat.{◌-◌, ◌≤◌}
-use native.Mathlib.Omega.{arith}
-use lib.Dec.{eqb}
-use lib.ListN.{length, take, get_or}
-use lib.Seq.{take_all}
+use lib.ListN.{length, take}
 use Rattle.byte_slices.specs.Slices.{same}
-use Rattle.byte_slices.proofs.Slices.{other_length, same_next}
 use Rattle.byte_slices.proofs.same.Given as goal
 
 abbrev pub invariant-loop-i : goal.invariant-loop-i

@@ -1,4 +1,3 @@
-use borrow.Author.Rules.{rules}
 use mathlib.Core.Path.{refl}
 use Rattle.basis.proofs.Reply.{matched_reply}
 use Rattle.calibration.specs.Shown.{as_reply}

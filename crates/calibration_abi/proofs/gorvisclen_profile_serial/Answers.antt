@@ -1,4 +1,3 @@
-use borrow.Author.Rules.{rules}
 use Rattle.basis.proofs.Reply.{matched_reply}
 use Rattle.calibration.specs.Profile.{as_reply}
 use Rattle.calibration_abi.proofs.Replies.{copy_refused, copy_answered, serial_of}

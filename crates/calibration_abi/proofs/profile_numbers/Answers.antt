@@ -1,4 +1,3 @@
-use borrow.Author.Rules.{rules}
 use mathlib.Core.Path.{refl}
 use Rattle.calibration_abi.specs.Numbers.{profile_numbers}
 use Rattle.calibration_abi.proofs.profile_numbers.Goals as goal

@@ -1,4 +1,3 @@
-use borrow.Author.Rules.{rules}
 use Rattle.basis.proofs.Reply.{matched_reply}
 use Rattle.abi.proofs.AnswerLaws.{refusal_written}
 use Rattle.class.specs.Class.{as_reply}

@@ -1,4 +1,3 @@
-use borrow.Author.Rules.{rules}
 use native.Mathlib.Omega.{arith}
 use Rattle.class_abi.proofs.LentSlices.{constants_written}
 use Rattle.class_abi.proofs.gorvisclen_class_constants.Goals as goal

@@ -1,4 +1,3 @@
-use borrow.Author.Rules.{rules}
 use Rattle.class_abi.specs.Numbers.{row_of}
 use Rattle.class_abi.proofs.row.Goals as goal
 

@@ -1,4 +1,3 @@
-use borrow.Author.Rules.{rules}
 use Rattle.collect.proofs.Steps.{same_get_response}
 use Rattle.collect.proofs.get_response.Goals as goal
 

@@ -1,4 +1,3 @@
-use borrow.Author.Rules.{rules}
 use Rattle.collect.proofs.Steps.{same_command}
 use Rattle.collect.proofs.with_le.Goals as goal
 

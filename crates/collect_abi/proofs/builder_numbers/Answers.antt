@@ -1,4 +1,3 @@
-use borrow.Author.Rules.{rules}
 use mathlib.Core.List.{[], ◌∷◌}
 use Rattle.collect_abi.specs.Numbers.{builder_numbers}
 use Rattle.collect_abi.proofs.builder_numbers.Goals as goal

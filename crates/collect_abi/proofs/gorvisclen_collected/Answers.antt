@@ -1,4 +1,3 @@
-use borrow.Author.Rules.{rules}
 use Rattle.collect_abi.proofs.LentSlices.{data_copied}
 use Rattle.collect_abi.proofs.gorvisclen_collected.Goals as goal
 

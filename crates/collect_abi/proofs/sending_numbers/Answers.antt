@@ -1,4 +1,3 @@
-use borrow.Author.Rules.{rules}
 use Rattle.collect_abi.proofs.LentSlices.{sending_row}
 use Rattle.collect_abi.proofs.sending_numbers.Goals as goal
 

@@ -1,4 +1,3 @@
-use borrow.Author.Rules.{rules}
 use mathlib.Core.Path.{sym, ap, ◌∙◌}
 use Rattle.collect.specs.declared.Sent.{Sent}
 use Rattle.collect_abi.specs.Numbers.{sent_numbers}

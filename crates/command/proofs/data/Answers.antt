@@ -1,4 +1,3 @@
-use borrow.Author.Rules.{rules}
 use mathlib.Core.Path.{sym, ap, ◌∙◌}
 use Rattle.command.specs.Command.{as_reply}
 use Rattle.command.proofs.data.Goals as goal

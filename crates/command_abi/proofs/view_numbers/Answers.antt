@@ -1,4 +1,3 @@
-use borrow.Author.Rules.{rules}
 use Rattle.command_abi.specs.Numbers.{view_numbers}
 use Rattle.command_abi.proofs.view_numbers.Goals as goal
 

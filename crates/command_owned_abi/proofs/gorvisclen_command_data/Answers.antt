@@ -1,4 +1,3 @@
-use borrow.Author.Rules.{rules}
 use mathlib.Core.Path.{refl, sym, ap, ◌∙◌}
 use Rattle.command.specs.Command.{as_reply}
 use Rattle.command_owned_abi.proofs.gorvisclen_command_data.Goals as goal

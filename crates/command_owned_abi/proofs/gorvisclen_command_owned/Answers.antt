@@ -1,4 +1,3 @@
-use borrow.Author.Rules.{rules}
 use native.Mathlib.Omega.{arith}
 use Rattle.abi.specs.Commands.{command_numbers}
 use Rattle.command_owned_abi.proofs.LentSlices.{owned_short, owned_refused, owned_row}

@@ -1,4 +1,3 @@
-use borrow.Author.Rules.{rules}
 use Rattle.reassembler.proofs.Headers.{chaining_bit_is}
 use Rattle.reassembler.proofs.JoinPromise.{says_more, says_command}
 use Rattle.reassembler.proofs.accepted.Goals as goal

@@ -1,4 +1,3 @@
-use borrow.Author.Rules.{rules}
 use Rattle.reassembler.proofs.Headers.{same_class_lem}
 use Rattle.reassembler.proofs.same_class.Goals as goal
 

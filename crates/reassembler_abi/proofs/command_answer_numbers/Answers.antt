@@ -1,4 +1,3 @@
-use borrow.Author.Rules.{rules}
 use Rattle.abi.specs.Commands.{command_numbers}
 use Rattle.reassembler_abi.specs.Numbers.{command_answer_numbers}
 use Rattle.reassembler_abi.proofs.command_answer_numbers.Goals as goal

@@ -1,4 +1,3 @@
-use borrow.Author.Rules.{rules}
 use Rattle.reassembler_abi.proofs.LentSlices.{data_copied}
 use Rattle.reassembler_abi.proofs.gorvisclen_joined_data.Goals as goal
 

@@ -1,4 +1,3 @@
-use borrow.Author.Rules.{rules}
 use mathlib.Core.List.{[], ◌∷◌}
 use Rattle.reassembler_abi.specs.Numbers.{open_chain_numbers}
 use Rattle.reassembler_abi.proofs.open_chain_numbers.Goals as goal

@@ -1,4 +1,3 @@
-use borrow.Author.Rules.{rules}
 use mathlib.Core.Path.{sym, ap, ◌∙◌}
 use Rattle.reassembler_abi.specs.Numbers.{state_numbers}
 use Rattle.reassembler_abi.proofs.state_numbers.Goals as goal

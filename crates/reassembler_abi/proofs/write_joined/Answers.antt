@@ -1,4 +1,3 @@
-use borrow.Author.Rules.{rules}
 use mathlib.Core.Path.{ap}
 use Rattle.reassembler.specs.Join.{as_reply}
 use Rattle.abi.proofs.AnswerLaws.{refusal_written}

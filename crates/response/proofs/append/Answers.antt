@@ -1,4 +1,3 @@
-use borrow.Author.Rules.{rules}
 use Rattle.basis.proofs.Reply.{matched_reply}
 use Rattle.response.specs.Response.{as_reply}
 use Rattle.response.proofs.Splitting.{unread, appended}

@@ -1,4 +1,3 @@
-use borrow.Author.Rules.{rules}
 use native.Mathlib.Omega.{arith}
 use Rattle.response_abi.proofs.LentSlices.{too_short_lem, appended}
 use Rattle.response_abi.proofs.gorvisclen_response_append.Goals as goal

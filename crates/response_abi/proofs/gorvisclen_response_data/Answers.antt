@@ -1,4 +1,3 @@
-use borrow.Author.Rules.{rules}
 use mathlib.Core.Path.{refl, sym, ap, ◌∙◌}
 use Rattle.response.specs.Response.{as_reply}
 use Rattle.response_abi.proofs.gorvisclen_response_data.Goals as goal

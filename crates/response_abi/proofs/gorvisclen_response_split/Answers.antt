@@ -1,4 +1,3 @@
-use borrow.Author.Rules.{rules}
 use Rattle.response_abi.proofs.gorvisclen_response_split.Goals as goal
 
 pub returns : goal.returns

@@ -1,4 +1,3 @@
-use borrow.Author.Rules.{rules}
 use Rattle.response_abi.specs.Numbers.{status_numbers}
 use Rattle.response_abi.proofs.gorvisclen_status.Goals as goal
 

@@ -1,4 +1,3 @@
-use borrow.Author.Rules.{rules}
 use mathlib.Core.Path.{refl}
 use Rattle.response_abi.specs.Numbers.{response_numbers}
 use Rattle.response_abi.proofs.response_numbers.Goals as goal

@@ -1,4 +1,3 @@
-use borrow.Author.Rules.{rules}
 use Rattle.abi.proofs.AnswerLaws.{refusal_written}
 use Rattle.response_abi.specs.Numbers.{response_numbers}
 use Rattle.response_abi.proofs.write_answer.Goals as goal

@@ -1,4 +1,3 @@
-use borrow.Author.Rules.{rules}
 use Rattle.splitter_abi.proofs.from_place.Goals as goal
 
 pub returns-in-Left : goal.returns-in-Left

@@ -1,4 +1,3 @@
-use borrow.Author.Rules.{rules}
 use mathlib.Core.Path.{sym, ap, ◌∙◌}
 use Rattle.splitter.specs.Pieces.{new_as_reply}
 use Rattle.splitter_abi.proofs.gorvisclen_new_non_extended.Goals as goal

@@ -1,4 +1,3 @@
-use borrow.Author.Rules.{rules}
 use Rattle.splitter_abi.proofs.write_piece.Goals as goal
 
 pub returns-in-Done : goal.returns-in-Done

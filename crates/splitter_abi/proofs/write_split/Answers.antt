@@ -1,4 +1,3 @@
-use borrow.Author.Rules.{rules}
 use Rattle.abi.proofs.AnswerLaws.{refusal_written}
 use Rattle.splitter_abi.proofs.LentSlices.{split_row}
 use Rattle.splitter_abi.proofs.write_split.Goals as goal

@@ -1,4 +1,3 @@
-use borrow.Author.Rules.{rules}
 use mathlib.Core.Path.{sym, ap, ◌∙◌}
 use Rattle.tlv.specs.Object.{as_reply}
 use Rattle.tlv_abi.specs.Numbers.{take_data_object_row}

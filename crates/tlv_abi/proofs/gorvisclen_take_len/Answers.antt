@@ -1,4 +1,3 @@
-use borrow.Author.Rules.{rules}
 use Rattle.abi.proofs.AnswerLaws.{two_numbers}
 use Rattle.tlv_abi.specs.Numbers.{take_len_reply}
 use Rattle.tlv_abi.proofs.gorvisclen_take_len.Goals as goal

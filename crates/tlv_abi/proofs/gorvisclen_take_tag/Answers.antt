@@ -1,4 +1,3 @@
-use borrow.Author.Rules.{rules}
 use Rattle.abi.proofs.AnswerLaws.{two_numbers}
 use Rattle.tlv_abi.specs.Numbers.{take_tag_reply}
 use Rattle.tlv_abi.proofs.gorvisclen_take_tag.Goals as goal

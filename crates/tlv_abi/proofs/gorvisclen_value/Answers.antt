@@ -1,4 +1,3 @@
-use borrow.Author.Rules.{rules}
 use mathlib.Core.Path.{refl, sym, ap, ◌∙◌}
 use Rattle.abi.specs.Answers.{Row}
 use Rattle.abi.specs.Lookups.{lookup_row}

@@ -1,4 +1,3 @@
-use borrow.Author.Rules.{rules}
 use Rattle.tlv_chunks_abi.proofs.Rows.{close_told}
 use Rattle.tlv_chunks_abi.proofs.gorvisclen_close_chunks.Goals as goal
 

@@ -1,4 +1,3 @@
-use borrow.Author.Rules.{rules}
 use Rattle.tlv_chunks_abi.proofs.Rows.{chunk_told}
 use Rattle.tlv_chunks_abi.proofs.gorvisclen_take_chunk.Goals as goal
 

@@ -1,4 +1,3 @@
-use borrow.Author.Rules.{rules}
 use mathlib.Core.Path.{sym, ◌∙◌}
 use native.Mathlib.Omega.{arith}
 use Rattle.tlv_chunks_abi.proofs.States.{one_byte, two_bytes_read, whole_tag, with_length}

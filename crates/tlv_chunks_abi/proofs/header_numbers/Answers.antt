@@ -1,4 +1,3 @@
-use borrow.Author.Rules.{rules}
 use Prim.Native.Nat.{◌+◌, ◌*◌}
 use mathlib.Core.Path.{◌≡◌, sym, ap, ◌∙◌}
 use mathlib.Core.List.{[], ◌∷◌}
@@ -10,9 +9,8 @@ returns-in-Tag1 c = sym (ap header_numbers c.in-Tag1.is)
 
 pub returns-in-Tag2 : goal.returns-in-Tag2
 returns-in-Tag2 c =
-    let h = c.header-in-Tag2-1.given in
-    let n : c.two_bytes.result ≡ h.0.0 * 256 + h.0.1.0 = c.two_bytes.ensures in
-    ap (λ n. 2 ∷ n ∷ 0 ∷ []) n ∙ sym (ap header_numbers h.1)
+    let n : c.two_bytes.result ≡ c.in-Tag2.b1 * 256 + c.in-Tag2.b2 = c.two_bytes.ensures in
+    ap (λ n. 2 ∷ n ∷ 0 ∷ []) n ∙ sym (ap header_numbers c.in-Tag2.is)
 
 pub returns-in-Tag : goal.returns-in-Tag
 returns-in-Tag c = sym (ap header_numbers c.in-Tag.is)

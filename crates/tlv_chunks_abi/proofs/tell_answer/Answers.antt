@@ -1,4 +1,3 @@
-use borrow.Author.Rules.{rules}
 use Rattle.tlv_chunks.specs.Call.{call_of}
 use Rattle.tlv_chunks_abi.proofs.Rows.{row_said, row_told}
 use Rattle.tlv_chunks_abi.proofs.tell_answer.Goals as goal

@@ -1,4 +1,3 @@
-use borrow.Author.Rules.{rules}
 use mathlib.Core.Path.{sym, ap}
 use Rattle.tlv_chunks.specs.Call.{events_of}
 use Rattle.tlv_chunks.specs.declared.walk.TakeChunk.{TakeChunk}

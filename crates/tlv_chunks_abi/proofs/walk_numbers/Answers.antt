@@ -1,4 +1,3 @@
-use borrow.Author.Rules.{rules}
 use mathlib.Core.Path.{sym, ap, ◌∙◌}
 use Rattle.tlv_chunks_abi.specs.Numbers.{walk_numbers}
 use Rattle.tlv_chunks_abi.proofs.walk_numbers.Goals as goal

@@ -1,4 +1,3 @@
-use borrow.Author.Rules.{rules}
 use mathlib.Core.Path.{refl}
 use Rattle.basis.proofs.Reply.{matched_reply}
 use Rattle.tlv_index.specs.Lookup.{as_reply}

@@ -1,4 +1,3 @@
-use borrow.Author.Rules.{rules}
 use mathlib.Core.Path.{ap, ◌∙◌}
 use Rattle.abi.specs.Lookups.{lookup_row}
 use Rattle.abi.proofs.AnswerLaws.{told_as}

@@ -1,4 +1,3 @@
-use borrow.Author.Rules.{rules}
 use native.Mathlib.Omega.{arith}
 use Rattle.tlv_write.proofs.Objects.{too_long, no_room, written}
 use Rattle.tlv_write.proofs.put_data_object.Goals as goal

@@ -1,4 +1,3 @@
-
 use Rattle.abi.proofs.answers.flag.Goals as goal
 
 pub returns-then-b : goal.returns-then-b

@@ -1,9 +1,6 @@
-use borrow.Author.Rules.{rules}
 use mathlib.Core.Path.{◌≡◌, refl, ◌∙◌}
-use mathlib.Core.List.{◌++◌}
-use Prim.Native.Nat.{◌-◌, ◌≤◌}
 use native.Mathlib.Omega.{arith}
-use lib.ListN.{length, take, drop, length-set}
+use lib.ListN.{length, length-set}
 use Rattle.basis.proofs.Over.{copied, copy_next}
 use Rattle.abi.proofs.AnswerLaws.{too_short_written, row_written}
 use Rattle.abi.proofs.answers.write_numbers.Goals as goal

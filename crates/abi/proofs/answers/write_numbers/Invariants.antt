@@ -1,11 +1,7 @@
-use borrow.Author.Rules.{rules}
-use mathlib.Core.Path.{◌≡◌, refl, ◌∙◌}
+use mathlib.Core.Path.{◌≡◌}
 use mathlib.Core.List.{◌++◌}
 use Prim.Native.Nat.{◌-◌, ◌≤◌}
-use native.Mathlib.Omega.{arith}
-use lib.ListN.{length, take, drop, length-set}
-use Rattle.basis.proofs.Over.{copied, copy_next}
-use Rattle.abi.proofs.AnswerLaws.{too_short_written, row_written}
+use lib.ListN.{length, take, drop}
 use Rattle.abi.proofs.answers.write_numbers.Given as goal
 
 abbrev pub invariant-loop-i : goal.invariant-loop-i

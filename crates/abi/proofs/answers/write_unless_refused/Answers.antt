@@ -1,4 +1,3 @@
-use borrow.Author.Rules.{rules}
 use borrow.Author.Tests.{ne_eqb}
 use Rattle.abi.proofs.AnswerLaws.{refusal_written}
 use Rattle.abi.proofs.answers.write_unless_refused.Goals as goal

@@ -1,4 +1,3 @@
-use borrow.Author.Rules.{rules}
 use Rattle.abi.proofs.BuilderLaws.{builder_from_numbers}
 use Rattle.abi.proofs.builders.builder_by_numbers.Goals as goal
 

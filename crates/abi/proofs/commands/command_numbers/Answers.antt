@@ -1,4 +1,3 @@
-use borrow.Author.Rules.{rules}
 use Rattle.abi.specs.Commands.{command_numbers}
 use Rattle.abi.proofs.commands.command_numbers.Goals as goal
 

@@ -1,4 +1,3 @@
-use borrow.Author.Rules.{rules}
 use mathlib.Core.Path.{sym, ap}
 use Rattle.builder.specs.Bytes.{le_number}
 use Rattle.abi.proofs.lengths.expected_len_number.Goals as goal

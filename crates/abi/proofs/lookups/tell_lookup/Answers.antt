@@ -1,4 +1,3 @@
-use borrow.Author.Rules.{rules}
 use Rattle.abi.proofs.lookups.tell_lookup.Goals as goal
 
 pub returns-in-End : goal.returns-in-End

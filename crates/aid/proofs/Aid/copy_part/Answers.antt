@@ -1,6 +1,5 @@
 use borrow.Author.Rules.{rules}
 use native.Mathlib.Omega.{arith}
-use mathlib.Core.Path.{◌∙◌}
 use Rattle.basis.proofs.Over.{copied_front}
 use Rattle.aid.proofs.Spans.{start_before_end, end_inside, buffer_too_small, part_copied, absent_part_not_copied}
 use Rattle.aid.proofs.Aid.copy_part.Goals as goal

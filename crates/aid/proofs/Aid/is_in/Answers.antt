@@ -1,4 +1,3 @@
-use borrow.Author.Rules.{rules}
 use mathlib.Core.Path.{◌∙◌}
 use Rattle.aid.proofs.Categories.{by_number}
 use Rattle.aid.proofs.Aid.is_in.Goals as goal

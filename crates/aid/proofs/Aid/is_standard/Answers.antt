@@ -1,4 +1,3 @@
-use borrow.Author.Rules.{rules}
 use native.Mathlib.Omega.{arith}
 use Rattle.aid.specs.Category.{standard}
 use Rattle.aid.proofs.Categories.{same_category}

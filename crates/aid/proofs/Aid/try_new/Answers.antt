@@ -1,4 +1,3 @@
-use borrow.Author.Rules.{rules}
 use native.Mathlib.Omega.{arith}
 use Rattle.aid.proofs.Making.{same_truncated}
 use Rattle.aid.proofs.Aid.try_new.Goals as goal

@@ -1,4 +1,3 @@
-use borrow.Author.Rules.{rules}
 use Rattle.builder.proofs.CommandBuilder.force_extended.Goals as goal
 
 pub returns-in-Unsupported : goal.returns-in-Unsupported

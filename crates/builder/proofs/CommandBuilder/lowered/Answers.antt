@@ -1,4 +1,3 @@
-use borrow.Author.Rules.{rules}
 use Rattle.builder.proofs.CommandBuilder.lowered.Goals as goal
 
 pub returns : goal.returns

@@ -1,11 +1,9 @@
-use borrow.Author.Rules.{rules}
 use native.Mathlib.Omega.{arith}
-use Prim.Native.Nat.{ℕ, ◌+◌}
+use Prim.Native.Nat.{◌+◌}
 use mathlib.Core.Path.{◌≡◌, sym, ap, ◌∙◌}
 use lib.ListN.{length}
 use Rattle.basis.specs.Reply.{ok}
 use Rattle.builder.specs.Bytes.{lc_len, le_len, required_len}
-use Rattle.builder.specs.declared.CommandBuilder.{CommandBuilder}
 use Rattle.builder.proofs.Lengths.{lengths_few, required_is}
 use Rattle.builder.proofs.Data.{too_many, few_enough}
 use Rattle.builder.proofs.CommandBuilder.required_len.Goals as goal

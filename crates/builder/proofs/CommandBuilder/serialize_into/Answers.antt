@@ -1,4 +1,3 @@
-use borrow.Author.Rules.{rules}
 use native.Mathlib.Omega.{arith}
 use Prim.Native.Nat.{ℕ, ◌+◌, ◌-◌}
 use mathlib.Core.Path.{◌≡◌, sym, ap, ◌∙◌}
@@ -9,7 +8,6 @@ use Rattle.basis.specs.Over.{over, over_at}
 use Rattle.basis.proofs.Over.{lent}
 use Rattle.builder.specs.Bytes.{lc_len, le_len, required_len, command_of}
 use Rattle.builder.specs.Sizes.{laid_out}
-use Rattle.builder.specs.declared.CommandBuilder.{CommandBuilder}
 use Rattle.builder.proofs.Cases.{laid_out_is}
 use Rattle.builder.proofs.Lengths.{lengths_few, length_command, required_is}
 use Rattle.builder.proofs.Fitting.{data_too_long, buffer_too_short, fits}

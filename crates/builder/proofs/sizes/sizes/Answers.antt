@@ -1,4 +1,3 @@
-use borrow.Author.Rules.{rules}
 use Rattle.builder.specs.Bytes.{le_written}
 use Rattle.builder.proofs.Cases.{lc_sized, le_sized}
 use Rattle.builder.proofs.sizes.sizes.Goals as goal

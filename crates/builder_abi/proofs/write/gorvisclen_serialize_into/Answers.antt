@@ -1,4 +1,3 @@
-use borrow.Author.Rules.{rules}
 use native.Mathlib.Omega.{arith}
 use Rattle.abi.proofs.SerializedLaws.{not_made, out_short, written}
 use Rattle.builder_abi.proofs.write.gorvisclen_serialize_into.Goals as goal

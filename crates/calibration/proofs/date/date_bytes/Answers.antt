@@ -1,4 +1,3 @@
-use borrow.Author.Rules.{rules}
 use Rattle.calibration.specs.Date.{date_bytes}
 use Rattle.calibration.proofs.Calendar.{Real, real_says}
 use Rattle.calibration.proofs.Digits.{century_below, month_below, day_below}

@@ -1,4 +1,3 @@
-use borrow.Author.Rules.{rules}
 use Rattle.calibration.specs.Date.{date_in}
 use Rattle.calibration.proofs.date.date_in.Goals as goal
 

@@ -1,4 +1,3 @@
-use borrow.Author.Rules.{rules}
 use mathlib.Core.Path.{refl}
 use Rattle.calibration.specs.Date.{packed}
 use Rattle.calibration.proofs.date.packed.Goals as goal

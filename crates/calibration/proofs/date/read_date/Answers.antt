@@ -1,6 +1,4 @@
-use borrow.Author.Rules.{rules}
 use mathlib.Core.Path.{sym, ◌∙◌}
-use borrow.Author.Tests.{not-true, not-false}
 use Rattle.calibration.specs.Date.{date_of}
 use Rattle.calibration.proofs.date.read_date.Goals as goal
 

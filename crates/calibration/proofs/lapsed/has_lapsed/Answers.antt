@@ -1,9 +1,5 @@
-use borrow.Author.Rules.{rules}
 use mathlib.Core.Path.{◌≡◌, sym, ap, ◌∙◌}
 use mathlib.Core.Bool.{Bool, true, false}
-use mathlib.Core.List.{List}
-use Prim.Native.Nat.{ℕ}
-use borrow.Author.Tests.{not-true, not-false}
 use Rattle.basis.specs.Reply.{ok}
 use Rattle.basis.proofs.Reply.{matched_reply}
 use Rattle.calibration.specs.Date.{is_real}

@@ -1,4 +1,3 @@
-use borrow.Author.Rules.{rules}
 use native.Mathlib.Omega.{arith}
 use Rattle.calibration.proofs.Digits.{number_of_four}
 use Rattle.calibration.proofs.profile.four_bytes.Goals as goal

@@ -1,8 +1,6 @@
-use borrow.Author.Rules.{rules}
 use mathlib.Core.Path.{◌∙◌}
 use Prim.Native.Nat.{◌+◌}
 use native.Mathlib.Omega.{arith}
-use borrow.Author.Tests.{not-false}
 use Rattle.basis.proofs.Truth.{same_truth}
 use Rattle.calibration.specs.Profile.{serial_len, is_profile}
 use Rattle.calibration.proofs.Form.{Head, no_head, is_head, true_head, other_size, other_head, all_heads, profile_formed}

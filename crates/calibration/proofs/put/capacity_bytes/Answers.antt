@@ -1,4 +1,3 @@
-use borrow.Author.Rules.{rules}
 use mathlib.Core.Path.{sym}
 use Rattle.calibration.proofs.Written.{be_four}
 use Rattle.calibration.proofs.put.capacity_bytes.Goals as goal

@@ -1,10 +1,8 @@
-use borrow.Author.Rules.{rules}
 use mathlib.Core.Path.{◌≡◌, sym, ◌∙◌}
 use mathlib.Core.Bool.{true}
 use Prim.Native.Nat.{◌≤◌}
 use native.Mathlib.Omega.{arith}
 use lib.ListN.{length}
-use borrow.Author.Tests.{not-true, not-false}
 use Rattle.calibration.specs.Date.{is_real}
 use Rattle.calibration.proofs.Written.{no_serial, no_date, no_room, written}
 use Rattle.calibration.proofs.put.put_profile.Goals as goal

@@ -1,4 +1,4 @@
-use mathlib.Core.Path.{◌≡◌, sym, ap, ◌∙◌}
+use mathlib.Core.Path.{sym, ap, ◌∙◌}
 use mathlib.Core.List.{List, [], ◌∷◌, ◌++◌}
 use Prim.Native.Nat.{ℕ, ◌+◌}
 use native.Mathlib.Omega.{arith}
@@ -25,8 +25,8 @@ returns c =
     let capacity = object 0xC3 (be 4 c.args.capacity) in
     let fronted = lent buffer at front _ (omega (arith, c.requires.2)) c.put_front.ensures in
     let copied =
-        copied_at (at + 4) _ serial _ _ c.copy_from_slice.ensures.after (omega arith)
-        ∙ ap (over_at (at + 4) serial) fronted ∙ over_at_twice at front serial buffer (omega (arith, c.requires.2)) in
+    copied_at (at + 4) _ serial _ _ c.copy_from_slice.ensures.after (omega arith)
+    ∙ ap (over_at (at + 4) serial) fronted ∙ over_at_twice at front serial buffer (omega (arith, c.requires.2)) in
     let all =
     next at (at + 4 + n + 6) buffer _ ((front ++ serial) ++ due) capacity _
     (next at (at + 4 + n) buffer _ (front ++ serial) due _ copied

@@ -1,4 +1,3 @@
-use borrow.Author.Rules.{rules}
 use Rattle.basis.proofs.Reply.{matched_reply}
 use Rattle.class.specs.Range.{range_as_number}
 use Rattle.class.specs.SecureMessaging.{secure_messaging_of}

@@ -1,4 +1,3 @@
-use borrow.Author.Rules.{rules}
 use native.Mathlib.Omega.{arith}
 use Rattle.class.specs.Channel.{further_of}
 use Rattle.class.proofs.channel.further.Goals as goal

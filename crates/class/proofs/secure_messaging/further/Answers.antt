@@ -1,5 +1,4 @@
 use Prim.Native.Nat.{◌/◌, ◌%◌}
-use borrow.Author.Rules.{rules}
 use native.Mathlib.Omega.{arith}
 use borrow.Author.Tests.{eq-eqb, ne_eqb}
 use Rattle.class.specs.SecureMessaging.{further_of}

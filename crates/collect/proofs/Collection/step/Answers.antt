@@ -1,4 +1,3 @@
-use borrow.Author.Rules.{rules}
 use Rattle.collect.proofs.Steps.{answers_refused, answers_done, answers_send}
 use Rattle.collect.proofs.Collection.step.Goals as goal
 

@@ -1,4 +1,3 @@
-use borrow.Author.Rules.{rules}
 use Rattle.collect.proofs.Writing.{command_written, get_response_written}
 use Rattle.collect.proofs.Collection.write.Goals as goal
 

@@ -1,4 +1,3 @@
-use borrow.Author.Rules.{rules}
 use mathlib.Core.Path.{◌∙◌}
 use Rattle.command.proofs.Lengths.{standard_zero_lc, standard_as_crate}
 use Rattle.command.proofs.body.extended_by_standard.Goals as goal

@@ -1,4 +1,3 @@
-use borrow.Author.Rules.{rules}
 use borrow.Author.Tests.{eq-eqb, ne_eqb}
 use Rattle.command.specs.Body.{extended_body}
 use Rattle.command.proofs.body.extended_lengths.Goals as goal

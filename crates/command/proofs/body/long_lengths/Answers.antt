@@ -1,4 +1,3 @@
-use borrow.Author.Rules.{rules}
 use mathlib.Core.Path.{sym, ◌∙◌}
 use Rattle.command.proofs.Lengths.{long_alone, long_with_le, long_other}
 use Rattle.command.proofs.body.long_lengths.Goals as goal

@@ -1,4 +1,3 @@
-use borrow.Author.Rules.{rules}
 use borrow.Author.Tests.{eq-eqb, ne_eqb}
 use Rattle.command.specs.Body.{body_of}
 use Rattle.command.proofs.body.parse_lengths.Goals as goal

@@ -1,4 +1,3 @@
-use borrow.Author.Rules.{rules}
 use mathlib.Core.Path.{sym, ◌∙◌}
 use Rattle.command.proofs.Lengths.{short_alone, short_with_le, short_other}
 use Rattle.command.proofs.body.short_lengths.Goals as goal

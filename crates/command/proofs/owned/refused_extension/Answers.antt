@@ -1,4 +1,3 @@
-use borrow.Author.Rules.{rules}
 use mathlib.Core.Path.{ap}
 use Rattle.command.specs.declared.owned.Command.{Command}
 use Rattle.command.specs.declared.owned.Extending.TheVariants.{Refused}

@@ -1,4 +1,3 @@
-use borrow.Author.Rules.{rules}
 use Rattle.reassembler.proofs.Reassembler.command.Goals as goal
 
 pub returns : goal.returns

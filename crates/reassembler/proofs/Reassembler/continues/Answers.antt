@@ -1,4 +1,3 @@
-use borrow.Author.Rules.{rules}
 use mathlib.Core.Path.{sym, ap, ◌∙◌}
 use Rattle.reassembler.specs.Join.{continues}
 use Rattle.reassembler.proofs.Reassembler.continues.Goals as goal

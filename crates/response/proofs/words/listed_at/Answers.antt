@@ -1,4 +1,3 @@
-use borrow.Author.Rules.{rules}
 use mathlib.Core.Path.{refl}
 use Rattle.response.specs.Words.{table, listed_at}
 use Rattle.response.proofs.words.listed_at.Goals as goal

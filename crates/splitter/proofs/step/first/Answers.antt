@@ -1,4 +1,3 @@
-use borrow.Author.Rules.{rules}
 use Rattle.builder.specs.declared.ExpectedLen.TheVariants.{Ne}
 use Rattle.splitter.proofs.step.first.Goals as goal
 

@@ -1,9 +1,8 @@
-use borrow.Author.Rules.{rules}
 use native.Mathlib.Omega.{arith}
 use Prim.Native.Nat.{◌-◌}
 use mathlib.Core.Path.{◌≡◌, sym}
 use native.Mathlib.Nat.{min-eq_left, min-eq_right}
-use Rattle.splitter.specs.Step.{room_in, most_data}
+use Rattle.splitter.specs.Step.{room_in}
 use Rattle.splitter.proofs.step.room.Goals as goal
 
 pub returns-then-available-extra : goal.returns-then-available-extra

@@ -1,4 +1,3 @@
-use borrow.Author.Rules.{rules}
 use native.Mathlib.Omega.{arith}
 use Prim.Native.Nat.{ℕ, ◌+◌, ◌-◌, ◌≤◌}
 use mathlib.Core.Path.{◌≡◌, sym, ap, ◌∙◌}
@@ -6,7 +5,6 @@ use mathlib.Core.Option.{some}
 use lib.ListN.{length}
 use Rattle.basis.specs.Reply.{ok}
 use Rattle.builder.specs.Bytes.{lowered_of, lc_len, le_len, required_len, as_reply}
-use Rattle.builder.specs.declared.CommandBuilder.{CommandBuilder}
 use Rattle.builder.proofs.Data.{value_few, refusal_many}
 use Rattle.builder.proofs.Lengths.{required_is}
 use Rattle.splitter.specs.Step.{first_of, room_in, room_of}

@@ -1,7 +1,5 @@
-use borrow.Author.Rules.{rules}
 use Prim.Native.Nat.{ℕ, ◌+◌, ◌*◌}
 use mathlib.Core.Path.{sym, ap, ◌∙◌}
-use mathlib.Core.List.{List}
 use native.Mathlib.Omega.{arith}
 use Rattle.basis.specs.Reply.{ok}
 use Rattle.tlv.proofs.Lengths.{no_length, short_length, cut_81, after_81, cut_82, after_82, other_length}

@@ -1,14 +1,11 @@
-use borrow.Author.Rules.{rules}
 use native.Mathlib.Omega.{arith}
-use Prim.Native.Nat.{ℕ, ◌+◌, ◌-◌, ◌≤◌}
+use Prim.Native.Nat.{◌+◌, ◌≤◌}
 use native.Mathlib.Nat.{sub-zero, add-sub_cancel_left}
 use mathlib.Core.Path.{◌≡◌, sym, ap, ◌∙◌}
-use mathlib.Core.List.{List}
 use lib.ListN.{length, get_or, drop, length-take, length-drop}
 use Rattle.basis.specs.Reply.{ok}
 use Rattle.basis.proofs.Reply.{all_is}
-use Rattle.tlv.specs.Lookup.{Span, part, between, seek, follow, lookup, sought_reply}
-use Rattle.tlv.specs.declared.Reading.{Reading}
+use Rattle.tlv.specs.Lookup.{Span, part, between, seek, follow, sought_reply}
 use Rattle.tlv.proofs.Walk.{Lies, seek_within, follow_refused, follow_next, follow_end}
 use Rattle.tlv.proofs.lookup.get_data_object.Goals as goal
 

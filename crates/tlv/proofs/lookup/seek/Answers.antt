@@ -1,4 +1,3 @@
-use borrow.Author.Rules.{rules}
 use Rattle.tlv.proofs.lookup.seek.Goals as goal
 
 pub returns-in-Crate : goal.returns-in-Crate

@@ -1,13 +1,10 @@
-use borrow.Author.Rules.{rules}
 use native.Mathlib.Omega.{arith}
 use native.Mathlib.Nat.{add-sub_cancel_left}
 use mathlib.Core.Path.{◌≡◌, sym, ap, ◌∙◌}
-use mathlib.Core.List.{List}
-use Prim.Native.Nat.{ℕ, ◌+◌, ◌≤◌}
+use Prim.Native.Nat.{◌+◌, ◌≤◌}
 use lib.ListN.{length}
 use Rattle.basis.specs.Reply.{ok}
 use Rattle.tlv.specs.Lookup.{Found, lookup, as_reply}
-use Rattle.tlv.specs.declared.Reading.{Reading}
 use Rattle.tlv.proofs.Walk.{lookup_inside}
 use Rattle.tlv.proofs.lookup.value.Goals as goal
 

@@ -1,9 +1,7 @@
-use borrow.Author.Rules.{rules}
 use borrow.Author.Tests.{le-leb, lt-leb}
 use native.Mathlib.Omega.{arith}
-use Prim.Native.Nat.{ℕ, ◌+◌, ◌-◌}
+use Prim.Native.Nat.{◌+◌, ◌-◌}
 use mathlib.Core.Path.{◌≡◌, sym, ap, ◌∙◌}
-use mathlib.Core.List.{List}
 use lib.ListN.{length, drop, length-drop}
 use Rattle.basis.specs.Reply.{ok}
 use Rattle.basis.proofs.Reply.{all_is}
@@ -11,7 +9,6 @@ use Rattle.basis.proofs.Over.{rest_is}
 use Rattle.tlv.specs.Tag.{Tag, tag_of, as_reply as tag_reply}
 use Rattle.tlv.specs.Len.{Len, len_of, as_reply as len_reply}
 use Rattle.tlv.specs.Object.{object_of}
-use Rattle.tlv.specs.declared.Reading.{Reading}
 use Rattle.tlv.proofs.Within.{Tagged, Sized, tag_within, len_within}
 use Rattle.tlv.proofs.object.front_object.Goals as goal
 

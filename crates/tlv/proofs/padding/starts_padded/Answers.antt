@@ -1,4 +1,3 @@
-use borrow.Author.Rules.{rules}
 use Rattle.tlv.specs.Padding.{padding}
 use Rattle.tlv.proofs.padding.starts_padded.Goals as goal
 

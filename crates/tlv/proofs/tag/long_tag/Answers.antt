@@ -1,4 +1,3 @@
-use borrow.Author.Rules.{rules}
 use mathlib.Core.Path.{sym}
 use Rattle.basis.proofs.Tests.{tests}
 use Rattle.tlv.specs.Tag.{long_tag}

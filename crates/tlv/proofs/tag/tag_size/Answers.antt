@@ -1,4 +1,3 @@
-use borrow.Author.Rules.{rules}
 use Rattle.tlv.specs.Tag.{tag_size}
 use Rattle.tlv.proofs.tag.tag_size.Goals as goal
 

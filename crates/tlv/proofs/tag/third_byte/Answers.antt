@@ -1,4 +1,3 @@
-use borrow.Author.Rules.{rules}
 use Rattle.tlv.specs.Tag.{third_byte}
 use Rattle.tlv.proofs.tag.third_byte.Goals as goal
 

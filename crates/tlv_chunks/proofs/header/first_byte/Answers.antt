@@ -1,4 +1,3 @@
-use borrow.Author.Rules.{rules}
 use mathlib.Core.Path.{sym}
 use Rattle.tlv_chunks.proofs.Headers.{first_alone, first_of_more}
 use Rattle.tlv_chunks.proofs.header.first_byte.Goals as goal

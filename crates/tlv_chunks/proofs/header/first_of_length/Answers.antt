@@ -1,4 +1,3 @@
-use borrow.Author.Rules.{rules}
 use native.Mathlib.Omega.{arith}
 use mathlib.Core.Path.{sym}
 use Rattle.tlv_chunks.proofs.Headers.{length_alone, length_81, length_82, length_refused}

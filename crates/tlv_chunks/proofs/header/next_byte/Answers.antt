@@ -1,4 +1,3 @@
-use borrow.Author.Rules.{rules}
 use mathlib.Core.Path.{sym}
 use Rattle.tlv_chunks.proofs.Headers.{after_81, high_after_82, low_after_82}
 use Rattle.tlv_chunks.proofs.header.next_byte.Goals as goal

@@ -1,4 +1,3 @@
-use borrow.Author.Rules.{rules}
 use mathlib.Core.Path.{sym, ◌∙◌}
 use Rattle.tlv_chunks.proofs.Headers.{second_refused, second_last, second_of_three}
 use Rattle.tlv_chunks.proofs.header.second_byte.Goals as goal

@@ -1,4 +1,3 @@
-use borrow.Author.Rules.{rules}
 use mathlib.Core.Path.{sym, ◌∙◌}
 use Rattle.tlv_chunks.proofs.Headers.{third_last, third_refused}
 use Rattle.tlv_chunks.proofs.header.third_byte.Goals as goal

@@ -1,4 +1,3 @@
-use borrow.Author.Rules.{rules}
 use Rattle.tlv_chunks.proofs.Calls.{head_empty, head_some}
 use Rattle.tlv_chunks.proofs.walk.head.Goals as goal
 

@@ -1,9 +1,6 @@
 use borrow.Author.Rules.{rules}
-use Prim.Native.Nat.{◌-◌, ◌≤◌}
 use native.Mathlib.Omega.{arith}
-use mathlib.Core.Path.{◌≡◌, refl, sym, ◌∙◌}
-use lib.ListN.{length}
-use Rattle.tlv_chunks.specs.Call.{rest_call}
+use mathlib.Core.Path.{refl, sym, ◌∙◌}
 use Rattle.tlv_chunks.proofs.Calls.{header_goes_on, header_complete, header_unreadable, header_used_up}
 use Rattle.tlv_chunks.proofs.walk.header_bytes.Goals as goal
 

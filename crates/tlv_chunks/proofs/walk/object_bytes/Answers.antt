@@ -1,4 +1,3 @@
-use borrow.Author.Rules.{rules}
 use native.Mathlib.Omega.{arith}
 use Rattle.tlv_chunks.proofs.Calls.{no_byte, header_starts}
 use Rattle.tlv_chunks.proofs.walk.object_bytes.Goals as goal

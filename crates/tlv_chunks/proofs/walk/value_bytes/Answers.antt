@@ -1,4 +1,3 @@
-use borrow.Author.Rules.{rules}
 use Rattle.tlv_chunks.proofs.Calls.{value_needs_more, value_ends}
 use Rattle.tlv_chunks.proofs.walk.value_bytes.Goals as goal
 

@@ -1,4 +1,3 @@
-use borrow.Author.Rules.{rules}
 use native.Mathlib.Omega.{arith}
 use Rattle.basis.proofs.Reply.{matched_reply}
 use Rattle.tlv_index.specs.Steps.{counted_reply}

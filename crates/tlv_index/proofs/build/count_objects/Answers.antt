@@ -1,13 +1,11 @@
-use borrow.Author.Rules.{rules}
-use Prim.Native.Nat.{ℕ, ◌+◌, ◌-◌, ◌≤◌, ◌<◌}
+use Prim.Native.Nat.{◌+◌, ◌≤◌, ◌<◌}
 use native.Mathlib.Omega.{arith}
 use mathlib.Core.Path.{◌≡◌, refl, sym, ap, ◌∙◌}
-use mathlib.Core.List.{List}
-use lib.ListN.{length, drop}
+use lib.ListN.{length}
 use Rattle.basis.specs.Reply.{ok, refused}
 use Rattle.basis.proofs.Reply.{matched_reply}
 use Rattle.tlv.specs.Object.{Item, Stop, object_at, as_reply}
-use Rattle.tlv.specs.Walk.{Walk, walk}
+use Rattle.tlv.specs.Walk.{Walk}
 use Rattle.tlv.specs.declared.Reading.TheVariants.{Crate}
 use Rattle.tlv_index.specs.Steps.{counted}
 use Rattle.tlv_index.proofs.Walks.{stops_here, item_ends, goes_on, counted_few, counted_many}
@@ -67,22 +65,22 @@ overflow_add-n c = omega (arith, c.loop-place.invariant.1)
 
 pub overflow_add-at : goal.overflow_add-at
 overflow_add-at c = let read : Item = record {
-      place = c.in-Object.field-0;
-      tag = c.in-Object.field-1;
-      at = c.in-Object.value;
-      len = c.in-Object.len;
-    } in
+  place = c.in-Object.field-0;
+  tag = c.in-Object.field-1;
+  at = c.in-Object.value;
+  len = c.in-Object.len;
+} in
     let met : object_at Crate c.args.«record».now c.loop-place.at ≡ ok read = matched_reply as_reply c.take_data_object.ensures c.in-Object.is in
     let inside : (c.loop-place.at < read.at + read.len) × (read.at + read.len ≤ length c.args.«record».now) = item_ends Crate c.args.«record».now c.loop-place.at c.loop-place.invariant.0 read met in
     omega (arith, inside)
 
 pub loop-place-smaller : goal.loop-place-smaller
 loop-place-smaller c = let read : Item = record {
-      place = c.in-Object.field-0;
-      tag = c.in-Object.field-1;
-      at = c.in-Object.value;
-      len = c.in-Object.len;
-    } in
+  place = c.in-Object.field-0;
+  tag = c.in-Object.field-1;
+  at = c.in-Object.value;
+  len = c.in-Object.len;
+} in
     let met : object_at Crate c.args.«record».now c.loop-place.at ≡ ok read = matched_reply as_reply c.take_data_object.ensures c.in-Object.is in
     let inside : (c.loop-place.at < read.at + read.len) × (read.at + read.len ≤ length c.args.«record».now) = item_ends Crate c.args.«record».now c.loop-place.at c.loop-place.invariant.0 read met in
     omega (arith, inside)

@@ -1,16 +1,9 @@
-use borrow.Author.Rules.{rules}
-use Prim.Native.Nat.{ℕ, ◌+◌, ◌-◌, ◌≤◌, ◌<◌}
-use native.Mathlib.Omega.{arith}
-use mathlib.Core.Path.{◌≡◌, refl, sym, ap, ◌∙◌}
+use Prim.Native.Nat.{ℕ, ◌+◌, ◌-◌, ◌≤◌}
+use mathlib.Core.Path.{◌≡◌}
 use mathlib.Core.List.{List}
 use lib.ListN.{length, drop}
-use Rattle.basis.specs.Reply.{ok, refused}
-use Rattle.basis.proofs.Reply.{matched_reply}
-use Rattle.tlv.specs.Object.{Item, Stop, object_at, as_reply}
 use Rattle.tlv.specs.Walk.{Walk, walk}
 use Rattle.tlv.specs.declared.Reading.TheVariants.{Crate}
-use Rattle.tlv_index.specs.Steps.{counted}
-use Rattle.tlv_index.proofs.Walks.{stops_here, item_ends, goes_on, counted_few, counted_many}
 use Rattle.tlv_index.proofs.build.count_objects.Given as goal
 
 -- the walk from a place of the record on

@@ -1,15 +1,14 @@
-use borrow.Author.Rules.{rules}
-use Prim.Native.Nat.{ℕ, ◌+◌, ◌-◌, ◌≤◌, ◌<◌}
+use Prim.Native.Nat.{ℕ, ◌+◌, ◌≤◌, ◌<◌}
 use native.Mathlib.Omega.{arith}
 use mathlib.Core.Path.{◌≡◌, refl, sym, ap, ◌∙◌}
 use mathlib.Core.List.{List, ◌∷◌, map}
-use lib.ListN.{length, drop}
+use lib.ListN.{length}
 use Rattle.basis.specs.Reply.{ok, refused}
 use Rattle.basis.proofs.Reply.{matched_reply}
 use Rattle.tlv.specs.Object.{Item, Stop, object_at, as_reply}
-use Rattle.tlv.specs.Walk.{Walk, walk}
+use Rattle.tlv.specs.Walk.{Walk}
 use Rattle.tlv.specs.declared.Reading.TheVariants.{Crate}
-use Rattle.tlv_index.specs.Index.{Entry, entry_of}
+use Rattle.tlv_index.specs.Index.{entry_of}
 use Rattle.tlv_index.specs.Steps.{entries_put}
 use Rattle.tlv_index.proofs.Walks.{stops_here, item_ends, goes_on}
 use Rattle.tlv_index.proofs.Sections.{put_none, put_next}
@@ -81,11 +80,11 @@ shape_of-file-in-Unreadable c = omega (arith, c.loop-tag.invariant.2)
 
 pub overflow_add-i : goal.overflow_add-i
 overflow_add-i c = let read : Item = record {
-      place = c.in-Object.field-0;
-      tag = c.in-Object.tag;
-      at = c.in-Object.value;
-      len = c.in-Object.len;
-    } in
+  place = c.in-Object.field-0;
+  tag = c.in-Object.tag;
+  at = c.in-Object.value;
+  len = c.in-Object.len;
+} in
     let met : object_at Crate c.args.«record».now c.loop-tag.at ≡ ok read = matched_reply as_reply c.take_data_object.ensures c.in-Object.is in
     let next : let t = c in let b = read.at + read.len in from t.args.«record».now t.loop-tag.at ≡ record { items = read ∷ (from t.args.«record».now b).items; stop = (from t.args.«record».now b).stop } = let t = c in goes_on Crate t.args.«record».now t.loop-tag.at t.loop-tag.invariant.0 read met in
     let left : let t = c in t.loop-tag.i + 1 + length (from t.args.«record».now (read.at + read.len)).items ≡ t.args.n = let t = c in
@@ -94,22 +93,22 @@ overflow_add-i c = let read : Item = record {
 
 pub overflow_add-at : goal.overflow_add-at
 overflow_add-at c = let read : Item = record {
-      place = c.in-Object.field-0;
-      tag = c.in-Object.tag;
-      at = c.in-Object.value;
-      len = c.in-Object.len;
-    } in
+  place = c.in-Object.field-0;
+  tag = c.in-Object.tag;
+  at = c.in-Object.value;
+  len = c.in-Object.len;
+} in
     let met : object_at Crate c.args.«record».now c.loop-tag.at ≡ ok read = matched_reply as_reply c.take_data_object.ensures c.in-Object.is in
     let inside : (c.loop-tag.at < read.at + read.len) × (read.at + read.len ≤ length c.args.«record».now) = item_ends Crate c.args.«record».now c.loop-tag.at c.loop-tag.invariant.0 read met in
     omega (arith, inside)
 
 pub loop-tag-smaller : goal.loop-tag-smaller
 loop-tag-smaller c = let read : Item = record {
-      place = c.in-Object.field-0;
-      tag = c.in-Object.tag;
-      at = c.in-Object.value;
-      len = c.in-Object.len;
-    } in
+  place = c.in-Object.field-0;
+  tag = c.in-Object.tag;
+  at = c.in-Object.value;
+  len = c.in-Object.len;
+} in
     let met : object_at Crate c.args.«record».now c.loop-tag.at ≡ ok read = matched_reply as_reply c.take_data_object.ensures c.in-Object.is in
     let inside : (c.loop-tag.at < read.at + read.len) × (read.at + read.len ≤ length c.args.«record».now) = item_ends Crate c.args.«record».now c.loop-tag.at c.loop-tag.invariant.0 read met in
     omega (arith, inside)

@@ -1,18 +1,11 @@
-use borrow.Author.Rules.{rules}
-use Prim.Native.Nat.{ℕ, ◌+◌, ◌-◌, ◌≤◌, ◌<◌}
-use native.Mathlib.Omega.{arith}
-use mathlib.Core.Path.{◌≡◌, refl, sym, ap, ◌∙◌}
-use mathlib.Core.List.{List, ◌∷◌, map}
+use Prim.Native.Nat.{ℕ, ◌+◌, ◌-◌, ◌≤◌}
+use mathlib.Core.Path.{◌≡◌}
+use mathlib.Core.List.{List, map}
 use lib.ListN.{length, drop}
-use Rattle.basis.specs.Reply.{ok, refused}
-use Rattle.basis.proofs.Reply.{matched_reply}
-use Rattle.tlv.specs.Object.{Item, Stop, object_at, as_reply}
 use Rattle.tlv.specs.Walk.{Walk, walk}
 use Rattle.tlv.specs.declared.Reading.TheVariants.{Crate}
 use Rattle.tlv_index.specs.Index.{Entry, entry_of}
 use Rattle.tlv_index.specs.Steps.{entries_put}
-use Rattle.tlv_index.proofs.Walks.{stops_here, item_ends, goes_on}
-use Rattle.tlv_index.proofs.Sections.{put_none, put_next}
 use Rattle.tlv_index.proofs.build.put_entries.Given as goal
 
 -- the walk from a place of the record on, and its entries

@@ -1,8 +1,5 @@
-use borrow.Author.Rules.{rules}
 use native.Mathlib.Omega.{arith}
-use mathlib.Core.List.{List}
 use Rattle.basis.proofs.Over.{lent}
-use Rattle.tlv.specs.Object.{Item}
 use Rattle.tlv.specs.Walk.{walk}
 use Rattle.tlv.specs.declared.Reading.TheVariants.{Crate}
 use Rattle.tlv_index.specs.File.{file_of}

@@ -1,12 +1,10 @@
-use borrow.Author.Rules.{rules}
-use Prim.Native.Nat.{ℕ, ◌+◌, ◌-◌, ◌*◌, ◌≤◌}
+use Prim.Native.Nat.{ℕ, ◌+◌, ◌*◌, ◌≤◌}
 use mathlib.Core.Path.{◌≡◌, sym, ap, ◌∙◌}
 use native.Mathlib.Nat.{sub-zero}
 use native.Mathlib.Omega.{arith}
 use lib.ListN.{length}
 use Rattle.basis.specs.Reply.{ok}
-use Rattle.tlv_index.specs.File.{field, places_count, lengths_count, file_size, entries_from, stop_in, index_in}
-use Rattle.tlv_index.specs.Lookup.{first_entry}
+use Rattle.tlv_index.specs.File.{field, places_count, lengths_count, file_size, index_in}
 use Rattle.tlv_index.proofs.Files.{file_parts}
 use Rattle.tlv_index.proofs.Entries.{entry_here, entry_next, entry_none}
 use Rattle.tlv_index.proofs.lookup.seek_entry.Goals as goal
@@ -28,12 +26,11 @@ returns-then-three_bytes-sought c =
     ∙ entry_here 2 _ _ _ _ _ c.loop-i-test.true (omega (arith, c.three_bytes.ensures, c.if-three_bytes-sought.true)))
 
 pub loop-i-preserved : goal.loop-i-preserved
-loop-i-preserved c =
-    (
-      c.loop-i.invariant.0
-          ∙ entry_next 2 _ _ _ _ _ c.loop-i-test.true (λ e. c.if-three_bytes-sought.false (omega (arith, c.three_bytes.ensures, e))),
-      omega (arith, c.loop-i-test.true),
-    )
+loop-i-preserved c = (
+  c.loop-i.invariant.0
+      ∙ entry_next 2 _ _ _ _ _ c.loop-i-test.true (λ e. c.if-three_bytes-sought.false (omega (arith, c.three_bytes.ensures, e))),
+  omega (arith, c.loop-i-test.true),
+)
 
 pub returns : goal.returns
 unfolding index_in

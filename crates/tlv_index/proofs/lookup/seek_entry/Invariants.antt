@@ -1,14 +1,7 @@
-use borrow.Author.Rules.{rules}
-use Prim.Native.Nat.{ℕ, ◌+◌, ◌-◌, ◌*◌, ◌≤◌}
-use mathlib.Core.Path.{◌≡◌, sym, ap, ◌∙◌}
-use native.Mathlib.Nat.{sub-zero}
-use native.Mathlib.Omega.{arith}
-use lib.ListN.{length}
-use Rattle.basis.specs.Reply.{ok}
-use Rattle.tlv_index.specs.File.{field, places_count, lengths_count, file_size, entries_from, stop_in, index_in}
+use Prim.Native.Nat.{◌-◌, ◌≤◌}
+use mathlib.Core.Path.{◌≡◌}
+use Rattle.tlv_index.specs.File.{entries_from, stop_in}
 use Rattle.tlv_index.specs.Lookup.{first_entry}
-use Rattle.tlv_index.proofs.Files.{file_parts}
-use Rattle.tlv_index.proofs.Entries.{entry_here, entry_next, entry_none}
 use Rattle.tlv_index.proofs.lookup.seek_entry.Given as goal
 
 -- the invariant: the entry used is the first with the tag from number i on

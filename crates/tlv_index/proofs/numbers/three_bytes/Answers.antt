@@ -1,4 +1,3 @@
-use borrow.Author.Rules.{rules}
 use native.Mathlib.Omega.{arith}
 use Rattle.tlv_index.proofs.Fields.{field_three}
 use Rattle.tlv_index.proofs.numbers.three_bytes.Goals as goal

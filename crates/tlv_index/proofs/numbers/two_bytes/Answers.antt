@@ -1,4 +1,3 @@
-use borrow.Author.Rules.{rules}
 use native.Mathlib.Omega.{arith}
 use Rattle.tlv_index.proofs.Fields.{field_two}
 use Rattle.tlv_index.proofs.numbers.two_bytes.Goals as goal

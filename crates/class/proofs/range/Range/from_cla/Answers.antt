@@ -1,4 +1,3 @@
-use borrow.Author.Rules.{rules}
 use native.Mathlib.Omega.{arith}
 use Rattle.basis.proofs.Reply.{matched_reply}
 use Rattle.class.specs.Class.{as_reply}

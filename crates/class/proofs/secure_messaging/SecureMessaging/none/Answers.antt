@@ -1,4 +1,3 @@
-use borrow.Author.Rules.{rules}
 use native.Mathlib.Omega.{arith}
 use Rattle.basis.proofs.Truth.{number_is, number_is_not}
 use Rattle.class.specs.SecureMessaging.{none, secure_messaging_as_number}

@@ -1,10 +1,8 @@
-use borrow.Author.Rules.{rules}
-use Prim.Native.Nat.{◌-◌}
-use mathlib.Core.Path.{◌≡◌, refl, sym, ap, ◌∙◌}
+use mathlib.Core.Path.{refl, sym, ap, ◌∙◌}
 use native.Mathlib.Omega.{arith}
 use Rattle.response.specs.Words.{place_of, place_in, table}
 use Rattle.response.specs.declared.words.ListedWord.{ListedWord}
-use Rattle.response.proofs.Table.{NotBefore, at_start, found, go_on, not_found}
+use Rattle.response.proofs.Table.{at_start, found, go_on, not_found}
 use Rattle.response.proofs.status.Status.listed.Goals as goal
 
 pub returns-then-entry-word : goal.returns-then-entry-word

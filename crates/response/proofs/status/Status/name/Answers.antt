@@ -1,4 +1,3 @@
-use borrow.Author.Rules.{rules}
 use Rattle.basis.proofs.Reply.{matched_reply}
 use Rattle.response.specs.Words.{entry_as_option}
 use Rattle.response.proofs.Table.{name_short}

@@ -1,4 +1,3 @@
-use borrow.Author.Rules.{rules}
 use mathlib.Core.Path.{refl}
 use Rattle.response.specs.Status.{word_of}
 use Rattle.response.proofs.status.Status.word.Goals as goal

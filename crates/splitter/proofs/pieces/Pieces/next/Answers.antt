@@ -1,4 +1,3 @@
-use borrow.Author.Rules.{rules}
 use Rattle.builder.proofs.Data.{too_many}
 use Rattle.splitter.specs.Pieces.{next_left_of}
 use Rattle.splitter.proofs.pieces.Pieces.next.Goals as goal

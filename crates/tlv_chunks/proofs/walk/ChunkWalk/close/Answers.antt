@@ -1,4 +1,3 @@
-use borrow.Author.Rules.{rules}
 use Rattle.tlv_chunks.proofs.walk.ChunkWalk.close.Goals as goal
 
 pub returns-in-Boundary : goal.returns-in-Boundary

@@ -1,4 +1,3 @@
-use borrow.Author.Rules.{rules}
 use Rattle.tlv_chunks.specs.Call.{take_of}
 use Rattle.tlv_chunks.proofs.Calls.{from_the_start, value_in_one_step}
 use Rattle.tlv_chunks.proofs.walk.ChunkWalk.take.Goals as goal
