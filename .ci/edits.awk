@@ -10,7 +10,7 @@
 BEGIN {
     OFS = "\t"
     path = "[A-Za-z0-9_]+"
-    form = "^# [a-z0-9_]+: (proofs/(" path "/)*" path "[.]antt( [A-Za-z][A-Za-z0-9-]*)?|fn " path "(::" path ")+)$"
+    form = "^# [a-z0-9_]+: (proofs/(" path "/)*" path "[.]antt( [A-Za-z][A-Za-z0-9_-]*)?|fn " path "(::" path ")+)$"
 }
 FNR == 1 { end_block(); edit = FILENAME }
 /^$/ { end_block(); next }
