@@ -1,21 +1,36 @@
-# Prints the kinds of the errors at a place in the log of a must-fail edit: "a fact" if one of them is a fact,
-# otherwise the other kinds with their counts, or nothing. .ci/refused says what the kinds are.
+# Prints the kinds of the errors at a place in the log of a wrong program: "a fact" if one of them is a fact, otherwise
+# the other kinds with their counts, or nothing. .ci/refused says what the kinds are.
 #   awk -v place=PLACE -f errors.awk LOG
-# PLACE is `fn CRATE::PATH`, or the end of the path of a file: CRATE/EDIT/proofs/PATH.antt. After a blank it may have
-# the name of a definition in the file; then only errors in it count.
+# PLACE is `fn CRATE::PATH`, a function: what is said of it, and the errors in the files of its proof. Or it is a file of
+# the crate, proofs/PATH.antt. After a blank it may have the name of a definition in the file; then only errors in it
+# count.
 BEGIN {
-    in_file = place !~ /^fn /
-    if (in_file && split(place, parts, " ") == 2) { place = parts[1]; named = "`" parts[2] "`: " }
+    of_function = place ~ /^fn /
+    folder = place
+    sub(/^fn [a-z0-9_]+::/, "proofs/", folder)
+    gsub(/::/, "/", folder)
+    file = place
+    if (!of_function && split(place, parts, " ") == 2) { file = parts[1]; named = "`" parts[2] "`: " }
 }
 # the text of an error goes on in the indented lines after it
 /^  / { sub(/^ +/, " "); text = text $0; next }
-{ judge(); text = $0 }
+{ judge(); text = $0; sub(/^[.]\//, "", text) }
+# from here on the proof's files were put aside, and only a goal that is false at given values counts (.ci/tries)
+/^tries: .* put aside$/ { aside = 1 }
 END { judge(); report() }
 
-function judge(    at) {
+function judge(    at, path) {
+    if (aside) {
+        if (of_function && index(text, "` of " folder "/Answers.antt may be false: ")) tally(kind_of_goal("`" quoted(text, "note: `") "`"))
+        return
+    }
     at = index(text, ": error: ")
-    if (in_file && index(substr(text, 1, at), "/" place ":") && index(substr(text, at + 9), named) == 1) tally(kind(text))
-    if (!in_file && index(text, place ": ") == 1 && text !~ /: proved$/) tally(kind_of_search(text))
+    path = text
+    sub(/:[0-9]+:[0-9]+: error: .*/, "", path)
+    if (!of_function && at && path == file && index(substr(text, at + 9), named) == 1) tally(kind(text))
+    if (of_function && at && match(path, /\/(Answers|Invariants|Proof)[.]antt$/) && substr(path, 1, RSTART - 1) == folder)
+        tally(kind_in_proof(text, substr(text, at + 9)))
+    if (of_function && index(text, place ": ") == 1 && text !~ /: proved$/) tally(kind_of_search(text))
 }
 
 function tally(k) { if (!count[k]++) found[++kinds] = k }
@@ -27,25 +42,38 @@ function report(    i, all) {
     else if (all != "") print all
 }
 
-# The kind of a line that says that a function has no proof. The prover searches for one if there is no proof file.
+# The kind of a line that says that a function has no proof. If there is no proof file for a goal, the prover searches.
 function kind_of_search(t) {
-    if (t ~ /: not proved/) return "a proof file of its own"
-    if (!match(t, /does not close [^;]*/)) return "another's proof"
-    t = substr(t, RSTART, RLENGTH)
-    return t ~ /`returns(-[0-9]+)?`|-requires(-[0-9]+)?`/ ? "a fact" : "an index or an overflow"
+    if (!match(t, /did not prove [^;]*/)) return "another's proof"
+    return kind_of_goal(substr(t, RSTART, RLENGTH))
+}
+
+# The kind of an error in the files of a function's proof. They are answers to its goals, which have the goals' names.
+function kind_in_proof(t, said,    k) {
+    k = kind(t)
+    return k == "a search that finds nothing" ? kind_of_goal("`" quoted(said, "`") "`") : k
+}
+
+# Whether one of the goals is of the contract: what the function returns, the invariant of its type, what a call
+# requires, or what a loop keeps.
+function kind_of_goal(goals) {
+    return goals ~ /`(returns|invariant_of)[^`]*`|-(requires|preserved|init)(-[^`]*)?`/ ? "a fact" : "an index or an overflow"
 }
 
 function kind(t) {
-    if (t ~ /was not admitted/) return "another's proof"
+    if (t ~ /was not admitted|which was rejected, was not checked/) return "another's proof"
+    if (t ~ /has no field|has no `[^`]*` that can be named|is no name/) return "a missing name"
+    if (t ~ /is not in scope/ && t !~ /is not in scope here, so what is shown/) return "a missing name"
     if (t ~ /no occurrence of the path|no part of |is not a well-typed family|no equation of the list|rewrites nothing in/)
         return "a rewrite that finds no place"
     if (t ~ /the two types are identical/) return "types that read alike"
     if (literal(t)) return "a literal's text"
-    if (t ~ /does not follow from what it read/) return "a fact"
+    if (t ~ /does not follow from what it read|`grind`: the goal does not follow[.]/) return "a fact"
     if (t ~ /first differ where one has .* at the start/ && t !~ /computed as far as they go/) return "types that read alike"
     if (t ~ /but this has type `|the two (types|sides|values) /) return "a fact"
     if (t ~ /two ends are equal, and `Path /) return "a fact"
-    if (t ~ /`search`: no proof of |`cc`: the equations do not join /) return "a search that finds nothing"
+    if (t ~ /`search`: no proof of |`cc`: the equations do not join |`(search|grind)` (found no proof|gave up|stopped)/)
+        return "a search that finds nothing"
     return "the proof file's shape"
 }
 
@@ -64,7 +92,7 @@ function literal(t,    wanted, given, computed) {
 
 # An order, also as a test of numbers, or that something is not so.
 function bound(t) {
-    if (t ~ /^(lib[.]Dec[.])?(leb|ltb) .* ≡ ([A-Za-z.]*[.])?(true|false)$/ || t ~ / → (Prim[.])?⊥$/ || order(t) != "") return 1
+    if (t ~ /^(lib[.]Dec[.])?(leb|ltb|nat_le|nat_lt) .* ≡ ([A-Za-z.]*[.])?(true|false)$/ || t ~ / → (Prim[.])?⊥$/ || order(t) != "") return 1
     while (gsub(/\([^()]*\)/, "", t)) {}
     return t ~ / (≤|<|≢) / && t !~ / → /
 }
