@@ -92,7 +92,7 @@ fn show_chunks(chunks: &[u8], expected: &[u8]) -> Shown {
     };
     let mut from = 0;
     while from < chunks.len() {
-        let end = bytes::scan::find(chunks, from, chunks.len(), b',');
+        let end = text::find(chunks, from, b',');
         let mut space = [0u8; 600];
         let n = text::hex(&chunks[from..end], &mut space);
         shown = show_chunk(shown, text::part(&space, 0, n), expected);

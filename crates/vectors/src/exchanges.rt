@@ -38,7 +38,7 @@ fn show_steps(
     let mut at = 0;
     let mut from = 0;
     while from < responses.len() {
-        let end = bytes::scan::find(responses, from, responses.len(), b',');
+        let end = text::find(responses, from, b',');
         let mut space = [0u8; 40];
         let n = text::hex(&responses[from..end], &mut space);
         match state.step(text::part(&space, 0, n), room) {

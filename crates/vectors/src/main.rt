@@ -6,6 +6,8 @@
 // was expected and what was found.
 //
 // The cases are the lines of standard input, crates/vectors/stdin, which says at its top how each kind is written.
+#![tactic(auto)]
+
 mod alone;
 mod balances;
 mod chunks;
@@ -54,7 +56,7 @@ fn line(line: &[u8]) {
 fn run(file: &[u8]) {
     let mut at = 0;
     while at < file.len() {
-        let end = bytes::scan::find(file, at, file.len(), b'\n');
+        let end = text::find(file, at, b'\n');
         line(&file[at..end]);
         at = end + 1;
     }

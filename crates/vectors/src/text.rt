@@ -19,12 +19,28 @@ pub(crate) fn part<'a>(s: &'a [u8], from: usize, to: usize) -> &'a [u8] {
     &s[..0]
 }
 
+// The first place, from a place on, at which a byte is; the end if there is none.
+pub(crate) fn find(s: &[u8], from: usize, b: u8) -> usize
+    requires { from ≤ length s.now }
+    ensures no_lower { from ≤ result }
+    ensures no_higher { result ≤ length s.now }
+{
+    let mut at = from;
+    while at < s.len() {
+        if s[at] == b {
+            return at;
+        }
+        at += 1;
+    }
+    at
+}
+
 // The end of the field that starts at a place: the next semicolon, or the end of the line.
 fn end(line: &[u8], start: usize) -> usize
     ensures { result ≤ length line.now }
 {
     if start < line.len() {
-        return bytes::scan::find(line, start, line.len(), b';');
+        return find(line, start, b';');
     }
     line.len()
 }
@@ -126,8 +142,9 @@ pub(crate) fn numbers(text: &[u8], decimal: bool, out: &mut [u32; 8]) -> usize {
 fn append(more: &[u8], out: &mut [u8], at: usize) -> usize {
     if at <= out.len() {
         if more.len() <= out.len() - at {
-            bytes::copy(more, &mut out[at..]);
-            return at + more.len();
+            let end = at + more.len();
+            out[at..end].copy_from_slice(more);
+            return end;
         }
     }
     at
@@ -146,7 +163,7 @@ fn append_times(more: &[u8], times: u32, out: &mut [u8], start: usize) -> usize 
 
 // Reads bytes with a number of times, as C100 x 255, or without one, to a place, and returns the place after them.
 fn hex_part(text: &[u8], out: &mut [u8], at: usize) -> usize {
-    let end = bytes::scan::find(text, 0, text.len(), b' ');
+    let end = find(text, 0, b' ');
     let mut space = [0u8; 600];
     let n = hex(part(text, 0, end), &mut space);
     let read = part(&space, 0, n);
@@ -163,7 +180,7 @@ pub(crate) fn long_hex(text: &[u8], out: &mut [u8]) -> usize {
     let mut at = 0;
     let mut from = 0;
     while from < text.len() {
-        let end = bytes::scan::find(text, from, text.len(), b',');
+        let end = find(text, from, b',');
         at = hex_part(&text[from..end], out, at);
         from = end + 2;
     }
