@@ -17,6 +17,8 @@
 //
 // An operation is an exported function; src/calls.rt lists them. Before a call each lent byte is its place modulo 251,
 // and each of the 16 lent numbers is 700 plus its place.
+#![tactic(auto)]
+
 mod answer;
 mod calls;
 mod input;
