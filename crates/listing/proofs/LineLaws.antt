@@ -1,7 +1,7 @@
 -- Laws of the lines of commands and records. Rules 10.3 to 10.8.
 use Prim.Native.Nat.{ℕ, ◌+◌, ◌-◌, ◌/◌, ◌≤◌, ◌<◌}
 use mathlib.Core.Path.{◌≡◌, refl, sym, ap, ◌∙◌}
-use mathlib.Core.Bool.{cond}
+use mathlib.Core.Bool.{true, false, cond}
 use mathlib.Core.List.{List, [], ◌∷◌, ◌++◌}
 use native.Mathlib.Omega.{arith}
 use native.Mathlib.Nat.{add-zero, min-eq_left}
@@ -34,6 +34,14 @@ module _ (k : ℕ) (s : List ℕ) where
       → line (line_form v) (line_numbers k v) ≡ command_line k s
   unfolding command_line
   view_line_lem v e = ap (view_line k) (sym e)
+
+  pub extended_line : (v : CommandView) (ns : List ℕ) → v.extended ≡ true → ns ≡ line_numbers k v → parse class_reading.Crate s ≡ ok v
+      → line "% # # # # lc % le % extended\n" ns ≡ command_line k s
+  extended_line v ns x n e = rw n (rw x at (view_line_lem v e))
+
+  pub short_line : (v : CommandView) (ns : List ℕ) → v.extended ≡ false → ns ≡ line_numbers k v → parse class_reading.Crate s ≡ ok v
+      → line "% # # # # lc % le % short\n" ns ≡ command_line k s
+  short_line v ns x n e = rw n (rw x at (view_line_lem v e))
 
 -- the line of an object, by how many bytes its tag has
 module _ (k j t n : ℕ) where

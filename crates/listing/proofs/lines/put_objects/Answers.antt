@@ -15,7 +15,7 @@ pub returns-in-End : goal.returns-in-End
 returns-in-End c =
     let l = c.loop-n in
     let a = c.args in
-    to_write_none (to_write_as (rest_end a.k l.j l.at a.«record».now l.invariant.1 c.in-End.field-0 c.in-End.ensures) l.invariant.0)
+    to_write_none (to_write_as (rest_end a.k l.j l.at a.«record».now l.invariant.1 _ c.in-End.ensures) l.invariant.0)
 
 pub fill-requires : goal.fill-requires
 fill-requires c =
