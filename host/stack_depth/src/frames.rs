@@ -13,7 +13,7 @@ const WORD: i64 = 8;
 
 /// Functions of the C library, which the compiler calls. Their code is not in the archives: only their return address
 /// is counted. Painting shows what else they take.
-const C_FUNCTIONS: [&str; 2] = ["memcpy", "memset"];
+const C_FUNCTIONS: [&str; 3] = ["memcpy", "memmove", "memset"];
 
 struct Instruction<'a> {
     address: u64,
@@ -270,7 +270,8 @@ mod tests {
         assert_eq!(depth(&["push   %rbx", "call to .text.y", "pop    %rbx"]), Some(32));
         assert_eq!(depth(&["jmp to y"]), Some(16));
         assert_eq!(depth(&["call to memcpy"]), Some(8));
-        assert_eq!(depth(&["call to memmove"]), None);
+        assert_eq!(depth(&["call to memmove"]), Some(8));
+        assert_eq!(depth(&["call to malloc"]), None);
         assert_eq!(depth(&["call to gorvisclen_x"]), None);
         assert_eq!(depth(&["call   *%rax"]), None);
         assert_eq!(depth(&["jmp    *0x0(%rip)"]), None);
