@@ -34,9 +34,9 @@ struct Limited {
 }
 
 const LIMITED: [Limited; 3] = [
-    Limited { name: "serialize_into", limit: 40, rust: rust::serialize_into },
-    Limited { name: "write_next", limit: 64, rust: rust::write_next },
-    Limited { name: "put_data_object", limit: 48, rust: rust::put_data_object },
+    Limited { name: "serialize_into", limit: 64, rust: rust::serialize_into },
+    Limited { name: "write_next", limit: 128, rust: rust::write_next },
+    Limited { name: "put_data_object", limit: 64, rust: rust::put_data_object },
 ];
 
 /// The functions that have no other answer than a refusal: 11 or 12 if a walk in chunks is closed.
