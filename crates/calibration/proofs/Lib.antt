@@ -7,11 +7,11 @@
 --     numbers of their days
 --   heads_template, template_parts, all_heads, other_head (Form): bytes are of the form exactly if four tags with their
 --     lengths stand at their places
---   digits_packed, packed_digits, date_back, bytes-back (Digits): digits and dates correspond one to one
---   by-form, read_says, fields-told, refusal_told (Read): the ways that a reading can go, and what each says
+--   digits_packed, packed_digits, date_back, bytes_back (Digits): digits and dates correspond one to one
+--   by_form, read_says, fields_told, refusal_told (Read): the ways that a reading can go, and what each says
 --   lapsed_refused, lapsed_unreal, lapsed_real (Lapsing): whether a record has lapsed
 --   whose_card, whose_desk, whose_none, shown_inside (Due): whose due date is shown, and that it lies in the record
---   no_serial, no_date, no-room, written (Written): the ways that the builder can answer
+--   no_serial, no_date, no_room, written (Written): the ways that the builder can answer
 pub mod Calendar
 pub mod Form
 pub mod Digits

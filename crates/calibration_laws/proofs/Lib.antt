@@ -15,10 +15,10 @@
 --   no_other_refusal
 -- Fields and bytes (OneToOne; rule 19.10), over the definition:
 --   accepted: bytes are read as some fields exactly if these are in range and the bytes are theirs, written out one by
---     one; built_read, read_built, fields_apart, bytes-apart: its parts, and what follows
+--     one; built_read, read_built, fields_apart, bytes_apart: its parts, and what follows
 -- The same over promises, with plain hypotheses (Readings; rules 19.5, 19.9 and 19.10):
 --   read_exactly, read_refused_26, read_refused_27, serial_none: what `read_profile` and `serial` answer, exactly when
---   put_refused_26, put_refused_27, put_refused_16, put-written: what `put_profile` answers and leaves in the buffer;
+--   put_refused_26, put_refused_27, put_refused_16, put_written: what `put_profile` answers and leaves in the buffer;
 --     one of the four applies to every input
 --   put_then_read, read_then_put: what was written is read back, and what was read is written again
 -- Lapsed (Lapses; rule 19.6): one of the first three applies to every input.

@@ -7,7 +7,7 @@
 --     those of the run over all bytes; divisions_agree: so any two divisions of a record agree in both
 --   session_there, answers_there, answer_there (Exists): there is such a session for all chunks, from every state;
 --     new_there, close_there: a walk to start from, and an answer to closing in every state
---   once-..: what "a repeated refusal once" leaves out
+--   once_..: what "a repeated refusal once" leaves out
 -- The whole record (Closed, Whole; rules 18.6 and 18.9):
 --   closed_tells: all that chunks and the closing call tell, joined together, is what the whole walk says: head and end
 --     of each object, the head of one that is cut, and the number of the stop
