@@ -1,4 +1,7 @@
 use mathlib.Core.Path.{sym, ap, ◌∙◌}
+use mathlib.Core.List.{[], ◌∷◌}
+use Rattle.basis.specs.Reply.{ok}
+use Rattle.abi.specs.Answers.{NumbersWritten}
 use Rattle.abi.proofs.AnswerLaws.{refusal_written}
 use Rattle.builder.specs.Bytes.{as_reply}
 use Rattle.builder_abi.proofs.write_required_len.Goals as goal
@@ -13,4 +16,6 @@ returns-in-Refused-required_len c =
 
 pub returns-in-Bytes : goal.returns-in-Bytes
 returns-in-Bytes c =
-    rw (c.in-Builder.is, sym c.required_len.ensures ∙ ap as_reply c.in-Bytes.is) c.write_numbers.ensures
+    let call = c.write_numbers in
+    let wrote : NumbersWritten 1 (ok (c.in-Bytes.n ∷ [])) c.args.out.now call.result call.new.out = call.ensures in
+    rw (c.in-Builder.is, sym c.required_len.ensures ∙ ap as_reply c.in-Bytes.is) wrote

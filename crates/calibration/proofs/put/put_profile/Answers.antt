@@ -17,31 +17,31 @@ returns-then-n-gt16 c =
 
 pub returns-then-not-is_real : goal.returns-then-not-is_real
 returns-then-not-is_real c =
-    no_date _ _ _ (omega (arith, c.if-n-lt1.false)) (omega (arith, c.if-n-gt16.false))
+    no_date _ _ _ (omega arith) (omega arith)
     (sym c.is_real.ensures ∙ c.if-not-is_real.true)
 
 pub returns-then-buffer-at : goal.returns-then-buffer-at
 returns-then-buffer-at c =
-    let lo : 1 ≤ length c.args.serial.now = omega (arith, c.if-n-lt1.false) in
-    let hi : length c.args.serial.now ≤ 16 = omega (arith, c.if-n-gt16.false) in
+    let lo : 1 ≤ length c.args.serial.now = omega arith in
+    let hi : length c.args.serial.now ≤ 16 = omega arith in
     let real : is_real c.args.due ≡ true = sym c.is_real.ensures ∙ c.if-not-is_real.false in
-    no_room _ _ _ lo hi real (omega (arith, c.if-buffer-at.true))
+    no_room _ _ _ lo hi real (omega arith)
 
 pub returns-then-buffer-at-2 : goal.returns-then-buffer-at-2
 returns-then-buffer-at-2 c =
-    let lo : 1 ≤ length c.args.serial.now = omega (arith, c.if-n-lt1.false) in
-    let hi : length c.args.serial.now ≤ 16 = omega (arith, c.if-n-gt16.false) in
+    let lo : 1 ≤ length c.args.serial.now = omega arith in
+    let hi : length c.args.serial.now ≤ 16 = omega arith in
     let real : is_real c.args.due ≡ true = sym c.is_real.ensures ∙ c.if-not-is_real.false in
-    no_room _ _ _ lo hi real (omega (arith, c.if-buffer-at.false, c.if-buffer-at-2.true))
+    no_room _ _ _ lo hi real (omega arith)
 
 pub returns : goal.returns
 returns c =
-    let lo : 1 ≤ length c.args.serial.now = omega (arith, c.if-n-lt1.false) in
-    let hi : length c.args.serial.now ≤ 16 = omega (arith, c.if-n-gt16.false) in
+    let lo : 1 ≤ length c.args.serial.now = omega arith in
+    let hi : length c.args.serial.now ≤ 16 = omega arith in
     let real : is_real c.args.due ≡ true = sym c.is_real.ensures ∙ c.if-not-is_real.false in
-    written _ _ _ lo hi real _ (omega (arith, c.if-buffer-at.false, c.if-buffer-at-2.false)) c.write.ensures
+    written _ _ _ lo hi real _ (omega arith) c.write.ensures
 
 pub write-requires : goal.write-requires
-write-requires c = let hi : length c.args.serial.now ≤ 16 = omega (arith, c.if-n-gt16.false) in
+write-requires c = let hi : length c.args.serial.now ≤ 16 = omega arith in
     let real : is_real c.args.due ≡ true = sym c.is_real.ensures ∙ c.if-not-is_real.false in
-    (hi, real, omega (arith, c.if-buffer-at.false, c.if-buffer-at-2.false))
+    (hi, real, omega arith)

@@ -1,10 +1,9 @@
-use Prim.Native.Nat.{◌+◌, ◌≤◌, ◌<◌}
 use native.Mathlib.Omega.{arith}
 use mathlib.Core.Path.{◌≡◌, refl, sym, ap, ◌∙◌}
 use lib.ListN.{length}
 use Rattle.basis.specs.Reply.{ok, refused}
 use Rattle.basis.proofs.Reply.{matched_reply}
-use Rattle.tlv.specs.Object.{Item, Stop, object_at, as_reply}
+use Rattle.tlv.specs.Object.{Stop, object_at, as_reply}
 use Rattle.tlv.specs.Walk.{Walk}
 use Rattle.tlv.specs.declared.Reading.TheVariants.{Crate}
 use Rattle.tlv_index.specs.Steps.{counted}
@@ -30,32 +29,20 @@ returns-in-Unreadable c =
 
 pub returns-then-n-eq255 : goal.returns-then-n-eq255
 returns-then-n-eq255 c =
-    let one_more : (i : Item) (g : object_at Crate c.args.«record».now c.loop-place.at ≡ ok i) → length (from c.args.«record».now 0).items ≡ c.loop-place.n + 1 + length (from c.args.«record».now (i.at + i.len)).items = λ i g. let next = ap (λ (w : Walk). length w.items) (goes_on Crate c.args.«record».now c.loop-place.at c.loop-place.invariant.0 i g) in
-    omega (arith, c.loop-place.invariant.2, next) in
-    let read : Item = record {
-      place = c.in-Object.field-0;
-      tag = c.in-Object.field-1;
-      at = c.in-Object.value;
-      len = c.in-Object.len;
-    } in
-    let met : object_at Crate c.args.«record».now c.loop-place.at ≡ ok read = matched_reply as_reply c.take_data_object.ensures c.in-Object.is in
-    sym (counted_many (from c.args.«record».now 0) (omega (arith, one_more read met, c.if-n-eq255.true)))
+    let s = c.args.«record».now in
+    let l = c.loop-place in
+    let met = matched_reply as_reply c.take_data_object.ensures c.in-Object.is in
+    let next = ap (λ (w : Walk). length w.items) (goes_on Crate s l.at l.invariant.0 _ met) in
+    sym (counted_many (from s 0) (omega (arith, l.invariant.2, next)))
 
 pub loop-place-preserved : goal.loop-place-preserved
 loop-place-preserved c =
-    let one_more : (i : Item) (g : object_at Crate c.args.«record».now c.loop-place.at ≡ ok i) → length (from c.args.«record».now 0).items ≡ c.loop-place.n + 1 + length (from c.args.«record».now (i.at + i.len)).items = λ i g. let next = ap (λ (w : Walk). length w.items) (goes_on Crate c.args.«record».now c.loop-place.at c.loop-place.invariant.0 i g) in
-    omega (arith, c.loop-place.invariant.2, next) in
-    let same_stop : (i : Item) (g : object_at Crate c.args.«record».now c.loop-place.at ≡ ok i) → (from c.args.«record».now 0).stop ≡ (from c.args.«record».now (i.at + i.len)).stop = λ i g. c.loop-place.invariant.3 ∙ ap (λ (w : Walk). w.stop) (goes_on Crate c.args.«record».now c.loop-place.at c.loop-place.invariant.0 i g) in
-    let read : Item = record {
-      place = c.in-Object.field-0;
-      tag = c.in-Object.field-1;
-      at = c.in-Object.value;
-      len = c.in-Object.len;
-    } in
-    let met : object_at Crate c.args.«record».now c.loop-place.at ≡ ok read = matched_reply as_reply c.take_data_object.ensures c.in-Object.is in
-    let inside : (c.loop-place.at < read.at + read.len) × (read.at + read.len ≤ length c.args.«record».now) = let t = c in item_ends Crate t.args.«record».now t.loop-place.at t.loop-place.invariant.0 read met in
-    let t = c in
-    (inside.1, omega (arith, t.loop-place.invariant.1, c.if-n-eq255.false), one_more read met, same_stop read met)
+    let s = c.args.«record».now in
+    let l = c.loop-place in
+    let met = matched_reply as_reply c.take_data_object.ensures c.in-Object.is in
+    let inside = item_ends Crate s l.at l.invariant.0 _ met in
+    let next = ap (λ (w : Walk). length w.items) (goes_on Crate s l.at l.invariant.0 _ met) in
+    (inside.1, omega arith, omega (arith, l.invariant.2, next), l.invariant.3 ∙ ap (λ (w : Walk). w.stop) (goes_on Crate s l.at l.invariant.0 _ met))
 
 pub loop-place-init : goal.loop-place-init
 loop-place-init c = (omega arith, omega arith, omega arith, refl)
@@ -64,23 +51,11 @@ pub overflow_add-n : goal.overflow_add-n
 overflow_add-n c = omega (arith, c.loop-place.invariant.1)
 
 pub overflow_add-at : goal.overflow_add-at
-overflow_add-at c = let read : Item = record {
-  place = c.in-Object.field-0;
-  tag = c.in-Object.field-1;
-  at = c.in-Object.value;
-  len = c.in-Object.len;
-} in
-    let met : object_at Crate c.args.«record».now c.loop-place.at ≡ ok read = matched_reply as_reply c.take_data_object.ensures c.in-Object.is in
-    let inside : (c.loop-place.at < read.at + read.len) × (read.at + read.len ≤ length c.args.«record».now) = item_ends Crate c.args.«record».now c.loop-place.at c.loop-place.invariant.0 read met in
-    omega (arith, inside)
+overflow_add-at c =
+    let met = matched_reply as_reply c.take_data_object.ensures c.in-Object.is in
+    omega (arith, item_ends Crate c.args.«record».now c.loop-place.at c.loop-place.invariant.0 _ met)
 
 pub loop-place-smaller : goal.loop-place-smaller
-loop-place-smaller c = let read : Item = record {
-  place = c.in-Object.field-0;
-  tag = c.in-Object.field-1;
-  at = c.in-Object.value;
-  len = c.in-Object.len;
-} in
-    let met : object_at Crate c.args.«record».now c.loop-place.at ≡ ok read = matched_reply as_reply c.take_data_object.ensures c.in-Object.is in
-    let inside : (c.loop-place.at < read.at + read.len) × (read.at + read.len ≤ length c.args.«record».now) = item_ends Crate c.args.«record».now c.loop-place.at c.loop-place.invariant.0 read met in
-    omega (arith, inside)
+loop-place-smaller c =
+    let met = matched_reply as_reply c.take_data_object.ensures c.in-Object.is in
+    omega (arith, item_ends Crate c.args.«record».now c.loop-place.at c.loop-place.invariant.0 _ met)

@@ -9,16 +9,16 @@ use Rattle.tlv_index.proofs.build.write_index.Goals as goal
 
 pub returns-then-buffer-at : goal.returns-then-buffer-at
 returns-then-buffer-at c =
-    no_room (((walk Crate 0 c.args.«record».now).items)) _ _ _ c.requires.0 _ _ (omega (arith, c.if-buffer-at.true))
+    no_room (walk Crate 0 c.args.«record».now).items _ _ _ c.requires.0 _ _ (omega arith)
 
 pub returns-then-buffer-at-2 : goal.returns-then-buffer-at-2
 returns-then-buffer-at-2 c =
-    no_room (((walk Crate 0 c.args.«record».now).items)) _ _ _ c.requires.0 _ _ (omega (arith, c.if-buffer-at-2.true, c.if-buffer-at.false))
+    no_room (walk Crate 0 c.args.«record».now).items _ _ _ c.requires.0 _ _ (omega arith)
 
 pub returns : goal.returns
 returns c =
     let a = c.args in
-    let long = size (((walk Crate 0 c.args.«record».now).items)) a.reason a.place a.n c.requires.0 a.buffer.now a.at in
-    has_room (((walk Crate 0 c.args.«record».now).items)) _ _ _ c.requires.0 _ _ _ (omega (arith, c.if-buffer-at-2.false, c.if-buffer-at.false))
-    (lent a.buffer.now a.at (file_of 2 (index_to (((walk Crate 0 c.args.«record».now).items)) a.reason a.place)) _ (omega (arith, c.if-buffer-at-2.false, c.if-buffer-at.false, long))
+    let long = size (walk Crate 0 c.args.«record».now).items a.reason a.place a.n c.requires.0 a.buffer.now a.at in
+    has_room (walk Crate 0 c.args.«record».now).items _ _ _ c.requires.0 _ _ _ (omega arith)
+    (lent a.buffer.now a.at (file_of 2 (index_to (walk Crate 0 c.args.«record».now).items a.reason a.place)) _ (omega (arith, long))
     c.put_index.ensures)
