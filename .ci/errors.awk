@@ -29,7 +29,7 @@ function judge(    at, path) {
     sub(/:[0-9]+:[0-9]+: error: .*/, "", path)
     if (!of_function && at && path == file && index(substr(text, at + 9), named) == 1) tally(kind(text))
     if (of_function && at && match(path, /\/(Answers|Invariants|Proof)[.]antt$/) && substr(path, 1, RSTART - 1) == folder)
-        tally(kind_in_proof(text, substr(text, at + 9)))
+        tally(kind(text))
     if (of_function && index(text, place ": ") == 1 && text !~ /: proved$/) tally(kind_of_search(text))
 }
 
@@ -48,16 +48,9 @@ function kind_of_search(t) {
     return kind_of_goal(substr(t, RSTART, RLENGTH))
 }
 
-# The kind of an error in the files of a function's proof. They are answers to its goals, which have the goals' names.
-function kind_in_proof(t, said,    k) {
-    k = kind(t)
-    return k == "a search that finds nothing" ? kind_of_goal("`" quoted(said, "`") "`") : k
-}
-
-# Whether one of the goals is of the contract: what the function returns, the invariant of its type, what a call
-# requires, or what a loop keeps.
+# Whether one of the goals is of the contract: what the function returns, or what a call requires.
 function kind_of_goal(goals) {
-    return goals ~ /`(returns|invariant_of)[^`]*`|-(requires|preserved|init)(-[^`]*)?`/ ? "a fact" : "an index or an overflow"
+    return goals ~ /`returns[^`]*`|-requires(-[^`]*)?`/ ? "a fact" : "an index or an overflow"
 }
 
 function kind(t) {
