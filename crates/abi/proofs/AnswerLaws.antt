@@ -2,15 +2,14 @@
 use Prim.Native.Nat.{ℕ, ◌≤◌, ◌<◌}
 use mathlib.Core.Path.{◌≡◌, refl, subst}
 use mathlib.Core.Bool.{Bool, true, false, cond}
-use mathlib.Core.List.{List, [], ◌∷◌}
+use mathlib.Core.List.{List}
 use native.Mathlib.Omega.{arith}
 use lib.Dec.{ltb}
 use lib.ListN.{length}
 use borrow.Author.Tests.{lt-ltb, le-ltb}
-use Rattle.basis.specs.Reply.{Reply, ok, refused, then}
+use Rattle.basis.specs.Reply.{Reply, ok, refused}
 use Rattle.basis.specs.Over.{over}
-use Rattle.abi.specs.Answers.{at_most16, too_short, RefusalStatusIs, usable_len, NumbersWritten, Row, row, short_status, RowTold, unless_refused, NumbersOf}
-use Rattle.abi.specs.declared.answers.Numbers.{Numbers}
+use Rattle.abi.specs.Answers.{at_most16, too_short, RefusalStatusIs, usable_len, NumbersWritten, Row, row, short_status, RowTold}
 
 -- the refusal that is given, whether the slice is too short or not
 pub refusal_fitted : {A : Type 0} (b : Bool) (k : ℕ) → cond b (too_short {A = A} (refused k)) (refused k) ≡ refused (cond b (at_most16 k) k)
@@ -61,13 +60,6 @@ module _ (vs out : List ℕ) (r : ℕ) (after : List ℕ) (a : NumbersWritten (l
 
   pub row_all : after ≡ over vs out
   row_all = rw (le-ltb _ _ h) at a.row
-
--- the `Numbers` of a reply, and what they say
-module _ {A : Type 0} (f g : A → ℕ) where
-  pub two_numbers : (x : Reply A) (r : Numbers) → NumbersOf (then x (λ a. ok (f a ∷ g a ∷ []))) r
-      → unless_refused r.0 (r.1 ∷ r.2 ∷ []) ≡ then x (λ a. ok (f a ∷ g a ∷ []))
-  two_numbers (ok a) r h = rw (h.row, h.first, h.second)
-  two_numbers (refused k) r h = rw (h.row, h.refusal)
 
 -- no more bytes may be used than there are
 usable_by : (b : Bool) (n : ℕ) → cond b 0 n ≤ n

@@ -11,7 +11,8 @@ use Rattle.tlv.specs.declared.Reading as tlv
 use Rattle.command.specs.declared.owned.Command.{Command}
 use Rattle.builder.specs.declared.ExpectedLen.{ExpectedLen}
 use Rattle.builder.specs.declared.ExtendedLen.{ExtendedLen}
-use Rattle.builder.specs.declared.Built.{Built}
+use Rattle.std.specs.Prelude.{Result}
+use Rattle.basis.specs.declared.refusal.Refusal.{Refusal}
 use Rattle.builder.specs.declared.CommandBuilder.{CommandBuilder}
 use Rattle.builder.proofs.OneReply.{new}
 use Rattle.abi.specs.Answers.{NumbersWritten, unless_refused, Row, row, RowTold, CopiedWith, BytesCopied, ReplyCopied, RefusalStatusIs, UsableLenIs, FlagIs}
@@ -97,7 +98,7 @@ pub mode_by_number_lem : (m : ℕ) (x y : ExtendedLen) → ModeByNumberIs m x �
 mode_by_number_lem m x y g h = g ∙⁻¹ h
 
 module _ (c i p q e m : ℕ) (d : List ℕ) where
-  pub builder_by_numbers_lem : (x y : Built) → BuilderByNumbersIs c i p q e m d x → BuilderByNumbersIs c i p q e m d y → x ≡ y
+  pub builder_by_numbers_lem : (x y : Result CommandBuilder Refusal) → BuilderByNumbersIs c i p q e m d x → BuilderByNumbersIs c i p q e m d y → x ≡ y
   unfolding builder_by_numbers
   builder_by_numbers_lem x y g h = new c i p q d (expected_len_by_number e) (mode_by_number m) x y g h
 

@@ -6,18 +6,16 @@ use mathlib.Core.List.{List, [], ◌∷◌}
 use borrow.Author.Tests.{lt-ltb, le-ltb}
 use lib.Dec.{ltb}
 use lib.ListN.{length}
+use Rattle.std.specs.Prelude.{Result, Ok, Err}
 use Rattle.basis.specs.Reply.{Reply, ok, refused}
+use Rattle.basis.specs.Refusal.{refusal_number, as_reply}
+use Rattle.basis.specs.declared.refusal.Refusal.{Refusal}
 use Rattle.basis.specs.Over.{over}
 use Rattle.basis.proofs.Reply.{all_is}
 use Rattle.abi.specs.Answers.{too_short, RefusalStatusIs}
 use Rattle.abi.proofs.AnswerLaws.{refusal_fitted}
-use Rattle.builder.specs.Builder.{as_reply}
-use Rattle.builder.specs.Bytes.{command_of, serialize_of, as_reply as length_as_reply, SerializeIntoIs}
+use Rattle.builder.specs.Bytes.{command_of, serialize_of, SerializeIntoIs}
 use Rattle.builder.specs.declared.CommandBuilder.{CommandBuilder}
-use Rattle.builder.specs.declared.Built.{Built}
-use Rattle.builder.specs.declared.Built.TheVariants as built
-use Rattle.builder.specs.declared.sizes.Length.{Length}
-use Rattle.builder.specs.declared.sizes.Length.TheVariants.{Bytes, Refused}
 use Rattle.abi.specs.Builders.{builder_by_numbers}
 use Rattle.abi.proofs.BuilderLaws.{few}
 use Rattle.abi.specs.Serialized.{Serialized}
@@ -34,32 +32,32 @@ no_place_for_the_length b d m at h =
     rw (le-ltb 65535 (length d) h) (either_way_16 (ltb m (at + length (command_of b d))) (length (command_of b d)))
 
 -- the builder has replied: it refused; it wrote the command
-module _ (b : CommandBuilder) (d : List ℕ) (at : ℕ) (l out : List ℕ) (h : 1 ≤ length out) (y : Length) (after : List ℕ)
+module _ (b : CommandBuilder) (d : List ℕ) (at : ℕ) (l out : List ℕ) (h : 1 ≤ length out) (y : Result ℕ Refusal) (after : List ℕ)
     (s : SerializeIntoIs b d l at y after) where
-  pub write_refused : (k : ℕ) → y ≡ Refused k → Serialized (ok b) d at l out k after out
+  pub write_refused : (k : Refusal) → y ≡ Err k → Serialized (ok b) d at l out (refusal_number k) after out
   write_refused k t =
       let n = le-ltb (length out) 1 h in
-      let f : serialize_of b d (length l) at ≡ refused k = sym s.reply ∙ ap length_as_reply t in
+      let f : serialize_of b d (length l) at ≡ refused (refusal_number k) = sym s.reply ∙ ap as_reply t in
       record { reply = rw (n, f); bytes = rw n s.buffer; row = rw (n, f) }
 
-  pub done : (k : ℕ) (out' : List ℕ) → y ≡ Bytes k → out' ≡ over (k ∷ []) out → Serialized (ok b) d at l out 0 after out'
+  pub done : (k : ℕ) (out' : List ℕ) → y ≡ Ok k → out' ≡ over (k ∷ []) out → Serialized (ok b) d at l out 0 after out'
   done k out' t w =
       let n = le-ltb (length out) 1 h in
-      let f : serialize_of b d (length l) at ≡ ok k = sym s.reply ∙ ap length_as_reply t in
+      let f : serialize_of b d (length l) at ≡ ok k = sym s.reply ∙ ap as_reply t in
       record { reply = rw (n, f); bytes = rw n s.buffer; row = rw (n, f) w }
 
 -- the code has made o: no builder; a builder, but no place for the length; a builder, and its command was written
-module _ (c i p q e m : ℕ) (d : List ℕ) (o : Built) (made : as_reply o ≡ builder_by_numbers c i p q e m d) (at : ℕ)
+module _ (c i p q e m : ℕ) (d : List ℕ) (o : Result CommandBuilder Refusal) (made : as_reply o ≡ builder_by_numbers c i p q e m d) (at : ℕ)
     (l out : List ℕ) where
   abbrev x : Reply CommandBuilder
   x = builder_by_numbers c i p q e m d
 
-  pub not_made : (k r : ℕ) → o ≡ built.Refused k → RefusalStatusIs k (length out) 1 r → Serialized x d at l out r l out
+  pub not_made : (k : Refusal) (r : ℕ) → o ≡ Err k → RefusalStatusIs (refusal_number k) (length out) 1 r → Serialized x d at l out r l out
   not_made k r g h =
-      let f : x ≡ refused k = sym made ∙ ap as_reply g in
+      let f : x ≡ refused (refusal_number k) = sym made ∙ ap as_reply g in
       record { reply = rw (f, refusal_fitted) h; bytes = rw f; row = rw (f, refusal_fitted) }
 
-  module _ (b : CommandBuilder) (g : o ≡ built.Builder b) where
+  module _ (b : CommandBuilder) (g : o ≡ Ok b) where
     x_is : x ≡ ok b
     x_is = sym made ∙ ap as_reply g
 

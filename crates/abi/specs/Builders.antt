@@ -1,13 +1,14 @@
 -- A builder by numbers (rules 3.1 and 3.2, refusals 3 and 13).
-use Rattle.std.specs.Prelude.{ℕ, ◌≡◌, cond, List, leb, eqb, length}
+use Rattle.std.specs.Prelude.{ℕ, ◌≡◌, Result, cond, List, leb, eqb, length}
 use Rattle.basis.specs.Reply.{Reply}
-use Rattle.builder.specs.Builder.{new_of, as_reply}
+use Rattle.basis.specs.Refusal.{as_reply}
+use Rattle.basis.specs.declared.refusal.Refusal.{Refusal}
+use Rattle.builder.specs.Builder.{new_of}
 use Rattle.builder.specs.declared.ExpectedLen.{ExpectedLen}
 use Rattle.builder.specs.declared.ExpectedLen.TheVariants.{Ne, Max}
 use Rattle.builder.specs.declared.ExtendedLen.{ExtendedLen}
 use Rattle.builder.specs.declared.ExtendedLen.TheVariants.{Unsupported, Supported, Forced}
 use Rattle.builder.specs.declared.CommandBuilder.{CommandBuilder}
-use Rattle.builder.specs.declared.Built.{Built}
 
 -- the expected length by number: any above 65,535 is Max (rule 3.1)
 unfoldable pub expected_len_by_number : ℕ → ExpectedLen
@@ -28,5 +29,5 @@ ExpectedLenByNumberIs e x = x ≡ expected_len_by_number e
 abbrev pub ModeByNumberIs : ℕ → ExtendedLen → Type 0
 ModeByNumberIs m x = x ≡ mode_by_number m
 
-abbrev pub BuilderByNumbersIs : ℕ → ℕ → ℕ → ℕ → ℕ → ℕ → List ℕ → Built → Type 0
+abbrev pub BuilderByNumbersIs : ℕ → ℕ → ℕ → ℕ → ℕ → ℕ → List ℕ → Result CommandBuilder Refusal → Type 0
 BuilderByNumbersIs c i p q e m d x = as_reply x ≡ builder_by_numbers c i p q e m d

@@ -5,6 +5,7 @@ ghost use Rattle.abi.specs.Answers.{NumbersWritten, unless_refused, row, RowTold
 ghost use Rattle.std.specs.Prelude.{length};
 
 // An answer as numbers: its refusal, or 0, and then two numbers.
+// Stays: a status beside numbers is what a host gets, and the promise `NumbersOf` says it of them.
 #[derive(Clone, Copy)]
 pub struct Numbers(pub u8, pub u64, pub u64);
 
@@ -15,10 +16,9 @@ pub fn write_numbers(numbers: &[u64], out: &mut [u64]) -> u8
     if out.len() < numbers.len() {
         return 16;
     }
-    let mut i = 0;
-    while i < numbers.len() {
+    // Stays: a row is short, and the call that `copy_from_slice` makes takes longer than the numbers one by one.
+    for i in 0..numbers.len() {
         out[i] = numbers[i];
-        i += 1;
     }
     0
 }
@@ -28,13 +28,7 @@ pub fn write_numbers(numbers: &[u64], out: &mut [u64]) -> u8
 pub fn refusal_status(k: u8, lent: usize, needed: usize) -> u8
     ensures { RefusalStatusIs k lent needed result }
 {
-    if lent < needed {
-        if 16 < k {
-            return 16;
-        }
-        return k;
-    }
-    k
+    if lent < needed { k.min(16) } else { k }
 }
 
 // How many of `len` bytes a function may use: none if `lent` numbers were given and more are needed.
@@ -74,7 +68,7 @@ pub fn tell_row(status: u8, numbers: &[u64], out: &mut [u64]) -> u8
 pub fn flag(b: bool) -> u64
     ensures { FlagIs b result }
 {
-    if b { 1 } else { 0 }
+    u64::from(b)
 }
 
 // Copies bytes to the front of a lent slice, and writes numbers to `out`. If one of the two is too short, neither
@@ -82,10 +76,7 @@ pub fn flag(b: bool) -> u64
 pub fn copy_and_tell(part: &[u8], to: &mut [u8], numbers: &[u64], out: &mut [u64]) -> u8
     ensures { CopiedWith numbers.now part.now to.old out.old result to.new out.new }
 {
-    if numbers.len() > out.len() {
-        return 16;
-    }
-    if to.len() < part.len() {
+    if numbers.len() > out.len() || to.len() < part.len() {
         return 16;
     }
     to[..part.len()].copy_from_slice(part);

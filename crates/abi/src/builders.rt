@@ -1,32 +1,34 @@
 // A builder by numbers (rules 3.1 and 3.2).
 ghost use Rattle.abi.specs.Builders.{ExpectedLenByNumberIs, ModeByNumberIs, BuilderByNumbersIs};
 
-use builder::{Built, CommandBuilder, ExpectedLen, ExtendedLen};
+use basis::Refusal;
+use builder::{CommandBuilder, ExpectedLen, ExtendedLen};
 
 // The expected length by number: any above 65,535 is Max (rule 3.1).
+#[tactic(auto, unfolding(crate::specs::Builders::expected_len_by_number))]
 pub fn expected_len_by_number(le: u32) -> ExpectedLen
     ensures { ExpectedLenByNumberIs le result }
 {
-    if le <= 65535 {
-        return ExpectedLen::Ne(le as u16);
+    match u16::try_from(le) {
+        Ok(n) => ExpectedLen::Ne(n),
+        Err(_) => ExpectedLen::Max,
     }
-    ExpectedLen::Max
 }
 
 // The mode by number: 0 short only, 1 extended supported, any other extended forced (rule 3.1).
+#[tactic(auto, unfolding(crate::specs::Builders::mode_by_number))]
 pub fn mode_by_number(mode: u8) -> ExtendedLen
     ensures { ModeByNumberIs mode result }
 {
-    if mode == 0 {
-        return ExtendedLen::Unsupported;
+    match mode {
+        0 => ExtendedLen::Unsupported,
+        1 => ExtendedLen::Supported,
+        _ => ExtendedLen::Forced,
     }
-    if mode == 1 {
-        return ExtendedLen::Supported;
-    }
-    ExtendedLen::Forced
 }
 
 // The builder for these data, with its expected length and its mode by number.
+#[tactic(auto, unfolding(crate::specs::Builders::builder_by_numbers))]
 pub fn builder_by_numbers(
     class: u8,
     instruction: u8,
@@ -35,7 +37,7 @@ pub fn builder_by_numbers(
     le: u32,
     mode: u8,
     data: &[u8],
-) -> Built
+) -> Result<CommandBuilder, Refusal>
     ensures { BuilderByNumbersIs class instruction p1 p2 le mode «data».now result }
 {
     let expected = expected_len_by_number(le);

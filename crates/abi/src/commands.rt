@@ -5,15 +5,16 @@ use crate::answers::flag;
 use command::Command;
 
 // The seven numbers of a command: class, instruction, P1, P2, length of the data, Le, extended.
+#[tactic(auto, unfolding(crate::specs::Commands::command_numbers))]
 pub fn command_numbers(command: Command) -> [u64; 7]
     ensures { CommandNumbersIs command result }
 {
     let class = command.class;
     [
-        class.into_inner() as u64,
-        command.instruction as u64,
-        command.p1 as u64,
-        command.p2 as u64,
+        u64::from(class.into_inner()),
+        u64::from(command.instruction),
+        u64::from(command.p1),
+        u64::from(command.p2),
         command.len as u64,
         command.le as u64,
         flag(command.extended),

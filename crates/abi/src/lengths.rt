@@ -8,7 +8,7 @@ pub fn expected_len_number(le: ExpectedLen) -> u64
     ensures { ExpectedLenNumberIs le result }
 {
     match le {
-        ExpectedLen::Ne(n) => n as u64,
+        ExpectedLen::Ne(n) => u64::from(n),
         ExpectedLen::Max => 65536,
     }
 }

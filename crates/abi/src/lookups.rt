@@ -4,21 +4,22 @@ ghost use Rattle.abi.specs.Answers.{RowTold};
 ghost use Rattle.abi.specs.Lookups.{lookup_row};
 
 use crate::answers::tell_row;
-use tlv::GetDataObject;
+use tlv::{Found, Halt};
 
 // Writes 3 numbers, with 11 and 12 too: the place in the record of the value, of the end reached (11) or of the object
 // that cannot be read (12); the length of the value, or 0; how many tags of the path matched.
-pub fn tell_lookup(found: GetDataObject, out: &mut [u64]) -> u8
+pub fn tell_lookup(found: Result<Found, Halt>, out: &mut [u64]) -> u8
     ensures { RowTold (lookup_row (as_reply found)) out.old result out.new }
 {
     match found {
-        GetDataObject::End(place, matched) => {
-            tell_row(11, &[place as u64, 0, matched as u64], out)
-        }
-        GetDataObject::Unreadable(place, matched) => {
-            tell_row(12, &[place as u64, 0, matched as u64], out)
-        }
-        GetDataObject::Value(at, len, matched) => {
+        Err(
+            Halt {
+                stop,
+                place,
+                matched,
+            },
+        ) => tell_row(stop.number(), &[place as u64, 0, matched as u64], out),
+        Ok(Found { at, len, matched }) => {
             tell_row(0, &[at as u64, len as u64, matched as u64], out)
         }
     }

@@ -1,6 +1,6 @@
 -- Which names make an AID and which are refused, number by number (rules 1.6 to 1.10 and 9.1).
 use Prim.Native.Nat.{ℕ, ◌/◌, ◌≤◌, ◌<◌}
-use mathlib.Core.Path.{◌≡◌, refl, sym, ◌∙◌, subst}
+use mathlib.Core.Path.{◌≡◌, refl, sym, ◌∙◌}
 use mathlib.Core.Bool.{Bool, true, false, cond}
 use mathlib.Core.List.{List}
 use native.Mathlib.Omega.{arith}
@@ -10,11 +10,12 @@ use lib.Dec.{eqb}
 use lib.ListN.{length, get_or, replicate}
 use Rattle.basis.specs.Over.{over}
 use Rattle.basis.specs.Reply.{Reply, ok, refused}
+use Rattle.basis.specs.Refusal.{refusal_number}
+use Rattle.basis.specs.declared.refusal.Refusal.{Refusal}
 use Rattle.basis.proofs.Reply.{refused_not_ok}
+use Rattle.std.specs.Prelude.{Ok, Err}
 use Rattle.aid.specs.Category.{category_of}
 use Rattle.aid.specs.Making.{under_five, tested, try_new, blank, TryNewTruncatableIs}
-use Rattle.aid.specs.declared.Answer.TheVariants.{Made, Refused}
-use Rattle.aid.specs.declared.TryNew.{TryNew}
 use Rattle.aid.proofs.Categories.{is_international, is_national}
 
 -- names of under five bytes, by the high half of the first (rules 1.9 and 1.10)
@@ -94,15 +95,12 @@ module _ (name : List ℕ) (t : ℕ) where
       never : (k : ℕ) → tested name t ≡ refused k → ⊥
       never k h = refused_not_ok k tt (sym h ∙ e)
 
-  -- what the code returns for a name that passes; for one that is refused; the same for an equal truncated length
+  -- what the code returns for a name that passes, and for one that is refused
   pub made_from_name : tested name t ≡ ok tt → (bs : List ℕ) (n u : ℕ) → bs ≡ over name (replicate 16 0) → n ≡ length name → u ≡ t
-      → TryNewTruncatableIs name t (record { answer = Made; aid = record { bytes = bs; len = n; truncated = u } })
+      → TryNewTruncatableIs name t (record { answer = Ok tt; aid = record { bytes = bs; len = n; truncated = u } })
   unfolding try_new
   made_from_name e bs n u eb en eu = record { answered = rw (e, eb, en, eu); from_name = rw (e, eb, en, eu) }
 
-  pub name_refused : (k j : ℕ) → tested name t ≡ refused k → j ≡ k → TryNewTruncatableIs name t (record { answer = Refused j; aid = blank })
+  pub name_refused : (k : Refusal) → tested name t ≡ refused (refusal_number k) → TryNewTruncatableIs name t (record { answer = Err k; aid = blank })
   unfolding try_new
-  name_refused k j e h = record { answered = rw (e, h); from_name = rw e }
-
-  pub same_truncated : (u : ℕ) (r : TryNew) → TryNewTruncatableIs name u r → u ≡ t → TryNewTruncatableIs name t r
-  same_truncated u r h e = subst (λ (n : ℕ). TryNewTruncatableIs name n r) e h
+  name_refused k e = record { answered = rw e; from_name = rw e }

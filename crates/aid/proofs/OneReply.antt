@@ -1,32 +1,33 @@
 -- One reply: any two replies, and contents of the lent buffer, that a promise allows are equal (rule 11.1).
 use Prim.Native.Nat.{ℕ, zero, suc}
-use mathlib.Core.Path.{◌≡◌, refl, ◌∙⁻¹◌}
+use mathlib.Core.Path.{◌≡◌, refl, ap, ◌∙⁻¹◌}
 use mathlib.Core.Bool.{Bool}
 use mathlib.Core.List.{List}
 use Rattle.basis.specs.Reply.{ok, then}
+use Rattle.basis.specs.Refusal.{refusal_number, as_reply}
+use Rattle.basis.specs.declared.refusal.Refusal.{Refusal}
 use Rattle.basis.proofs.Reply.{apart}
-use Rattle.aid.specs.Making.{as_reply, TryNewIs, TryNewTruncatableIs}
+use Rattle.basis.proofs.OneReply.{refusal_back, number_there_and_back, one_option}
+use Rattle.std.specs.Prelude.{Option, Some, None, Result, Ok, Err}
+use Rattle.aid.specs.Making.{TryNewIs, TryNewTruncatableIs}
 use Rattle.aid.specs.Category.{international, national, standard, proprietary, category_as_number, CategoryIs, IsInIs}
-use Rattle.aid.specs.Parts.{length_as_option, copied_as_reply, PartLenIs, CopyPartIs}
+use Rattle.aid.specs.Parts.{copied_as_reply, PartLenIs, CopyPartIs}
 use Rattle.aid.specs.Matches.{MatchesIs}
 use Rattle.aid.specs.declared.Aid.{Aid}
-use Rattle.aid.specs.declared.Answer.{Answer}
-use Rattle.aid.specs.declared.Answer.TheVariants as answer
 use Rattle.aid.specs.declared.TryNew.{TryNew}
 use Rattle.aid.specs.declared.category.Category.{Category}
 use Rattle.aid.specs.declared.category.Category.TheVariants as categories
 use Rattle.aid.specs.declared.part.Part.{Part}
-use Rattle.aid.specs.declared.part.Length.{Length}
-use Rattle.aid.specs.declared.part.Length.TheVariants as len
-use Rattle.aid.specs.declared.part.Copied.{Copied}
-use Rattle.aid.specs.declared.part.Copied.TheVariants as copied
 
 -- answers with the same reply are equal
-same_answer : (a b : Answer) (x y : Aid) → then (as_reply a) (λ u. ok x) ≡ then (as_reply b) (λ u. ok y) → a ≡ b
-same_answer answer.Made answer.Made x y e = refl
-same_answer answer.Made (answer.Refused k) x y e = cc
-same_answer (answer.Refused k) answer.Made x y e = cc
-same_answer (answer.Refused k) (answer.Refused j) x y e = cc
+same_number : (j k : Refusal) → refusal_number j ≡ refusal_number k → j ≡ k
+same_number j k e = apart refusal_number refusal_back number_there_and_back j k e
+
+same_answer : (a b : Result (Unit {0}) Refusal) (x y : Aid) → then (as_reply a) (λ u. ok x) ≡ then (as_reply b) (λ u. ok y) → a ≡ b
+same_answer (Ok u) (Ok v) x y e = refl
+same_answer (Ok u) (Err k) x y e = cc
+same_answer (Err k) (Ok u) x y e = cc
+same_answer (Err j) (Err k) x y e = ap (λ (k : Refusal). Err k) (same_number j k cc)
 
 -- the way back from a number to the category, and that it leads back to the same category
 abbrev category_back : ℕ → Category
@@ -43,22 +44,16 @@ category_there_and_back categories.Standard = refl
 category_there_and_back categories.Proprietary = refl
 category_there_and_back categories.Other = refl
 
-same_length : (a b : Length) → length_as_option a ≡ length_as_option b → a ≡ b
-same_length (len.Bytes n) (len.Bytes m) e = cc
-same_length (len.Bytes n) len.None e = cc
-same_length len.None (len.Bytes m) e = cc
-same_length len.None len.None e = refl
-
-same_copied : (a b : Copied) → copied_as_reply a ≡ copied_as_reply b → a ≡ b
-same_copied (copied.Bytes n) (copied.Bytes m) e = cc
-same_copied (copied.Bytes n) copied.None e = cc
-same_copied (copied.Bytes n) (copied.Refused j) e = cc
-same_copied copied.None (copied.Bytes m) e = cc
-same_copied copied.None copied.None e = refl
-same_copied copied.None (copied.Refused j) e = cc
-same_copied (copied.Refused k) (copied.Bytes m) e = cc
-same_copied (copied.Refused k) copied.None e = cc
-same_copied (copied.Refused k) (copied.Refused j) e = cc
+same_copied : (a b : Result (Option ℕ) Refusal) → copied_as_reply a ≡ copied_as_reply b → a ≡ b
+same_copied (Ok (Some n)) (Ok (Some m)) e = cc
+same_copied (Ok (Some n)) (Ok None) e = cc
+same_copied (Ok (Some n)) (Err k) e = cc
+same_copied (Ok None) (Ok (Some m)) e = cc
+same_copied (Ok None) (Ok None) e = refl
+same_copied (Ok None) (Err k) e = cc
+same_copied (Err k) (Ok (Some m)) e = cc
+same_copied (Err k) (Ok None) e = cc
+same_copied (Err j) (Err k) e = ap (λ (k : Refusal). Err k) (same_number j k cc)
 
 pub try_new_truncatable : (name : List ℕ) (t : ℕ) (r s : TryNew)
     → TryNewTruncatableIs name t r → TryNewTruncatableIs name t s → r ≡ s
@@ -88,10 +83,10 @@ is_standard = is_in standard
 pub is_proprietary : (a : Aid) (r s : Bool) → IsInIs proprietary a r → IsInIs proprietary a s → r ≡ s
 is_proprietary = is_in proprietary
 
-pub part_len : (p : Part) (a : Aid) (r s : Length) → PartLenIs p a r → PartLenIs p a s → r ≡ s
-part_len p a r s x y = same_length r s (x ∙⁻¹ y)
+pub part_len : (p : Part) (a : Aid) (r s : Option ℕ) → PartLenIs p a r → PartLenIs p a s → r ≡ s
+part_len p a r s x y = one_option r s x y
 
-pub copy_part : (p : Part) (a : Aid) (to : List ℕ) (r s : Copied) (after after' : List ℕ)
+pub copy_part : (p : Part) (a : Aid) (to : List ℕ) (r s : Result (Option ℕ) Refusal) (after after' : List ℕ)
     → CopyPartIs p a to r after → CopyPartIs p a to s after' → (r ≡ s) × (after ≡ after')
 copy_part p a to r s after after' x y = (same_copied r s (x.reply ∙⁻¹ y.reply), x.buffer ∙⁻¹ y.buffer)
 

@@ -1,11 +1,10 @@
 -- Making an AID of a name (rules 9.1 and 9.2, 1.6 to 1.10).
 use Rattle.std.specs.Prelude.{ℕ, ◌-◌, ◌/◌, ◌≤◌, ◌≡◌, cond, ◌⊎◌, List, [], ◌∷◌, eqb, ltb, length, get_or, drop, replicate}
 use Rattle.basis.specs.Reply.{Reply, ok, refused, then}
+use Rattle.basis.specs.Refusal.{as_reply}
 use Rattle.basis.specs.Over.{over}
 use Rattle.aid.specs.Category.{international, national, category_of}
 use Rattle.aid.specs.declared.Aid.{Aid}
-use Rattle.aid.specs.declared.Answer.{Answer}
-use Rattle.aid.specs.declared.Answer.TheVariants.{Made, Refused}
 use Rattle.aid.specs.declared.TryNew.{TryNew}
 
 -- a name of under five bytes, by its first byte: 9 for a national one (rule 1.9), 10 for an international one (rule
@@ -27,11 +26,6 @@ holding name t = record { bytes = over name (replicate 16 0); len = length name;
 -- the AID of a name with a truncated length
 unfoldable pub try_new : List ℕ → ℕ → Reply Aid
 try_new name t = then (tested name t) (λ u. ok (holding name t))
-
--- an answer of the code as a reply
-abbrev pub as_reply : Answer → Reply (Unit {0})
-as_reply Made = ok tt
-as_reply (Refused k) = refused k
 
 -- the AID that is returned with a refusal: that of the one byte 00
 abbrev pub blank : Aid

@@ -1,19 +1,16 @@
 -- The parts of an AID, as lengths and copies (rule 9.4). ISO/IEC 7816-4:2005 8.2.1.2: a RID has five bytes, a PIX
 -- follows it.
-use Rattle.std.specs.Prelude.{ℕ, ◌-◌, ◌≤◌, ◌≡◌, Bool, true, false, cond, List, eqb, leb, ltb, length, take, drop}
+use Rattle.std.specs.Prelude.{ℕ, ◌-◌, ◌≤◌, ◌≡◌, Bool, true, false, Result, Ok, Err, cond, List, eqb, leb, ltb, length, take, drop}
+use Rattle.std.specs.Prelude as std
 use Rattle.std.proofs.Math.Option.{Option, none, some}
 use Rattle.basis.specs.Reply.{Reply, ok, refused}
+use Rattle.basis.specs.Refusal.{as_option, refusal_number}
+use Rattle.basis.specs.declared.refusal.Refusal.{Refusal}
 use Rattle.basis.specs.Over.{over}
 use Rattle.aid.specs.Category.{international, national, category}
 use Rattle.aid.specs.declared.Aid.{Aid}
 use Rattle.aid.specs.declared.part.Part.{Part}
 use Rattle.aid.specs.declared.part.Part.TheVariants as part
-use Rattle.aid.specs.declared.part.Span.{Span}
-use Rattle.aid.specs.declared.part.Span.TheVariants as span
-use Rattle.aid.specs.declared.part.Length.{Length}
-use Rattle.aid.specs.declared.part.Length.TheVariants as len
-use Rattle.aid.specs.declared.part.Copied.{Copied}
-use Rattle.aid.specs.declared.part.Copied.TheVariants as copied
 
 -- the bytes of an AID: as many of the 16 as its length says
 abbrev pub whole : Aid → List ℕ
@@ -48,33 +45,28 @@ abbrev pub copy_to : Option (List ℕ) → List ℕ → List ℕ
 copy_to none to = to
 copy_to (some l) to = cond (ltb (length to) (length l)) to (over l to)
 
--- the answers of the code in these forms
-abbrev pub length_as_option : Length → Option ℕ
-length_as_option (len.Bytes n) = some n
-length_as_option len.None = none
-
-abbrev pub copied_as_reply : Copied → Reply (Option ℕ)
-copied_as_reply (copied.Bytes n) = ok (some n)
-copied_as_reply copied.None = ok none
-copied_as_reply (copied.Refused k) = refused k
+-- an answer of the code as a reply
+abbrev pub copied_as_reply : Result (std.Option ℕ) Refusal → Reply (Option ℕ)
+copied_as_reply (Ok n) = ok (as_option n)
+copied_as_reply (Err k) = refused (refusal_number k)
 
 -- the promises of `part_len` and `copy_part`
-abbrev pub PartLenIs : Part → Aid → Length → Type 0
-PartLenIs p a r = length_as_option r ≡ length_of (part_of p a)
+abbrev pub PartLenIs : Part → Aid → std.Option ℕ → Type 0
+PartLenIs p a r = as_option r ≡ length_of (part_of p a)
 
-pub record CopyPartIs (p : Part) (a : Aid) (to : List ℕ) (r : Copied) (after : List ℕ) : Type 0 where
+pub record CopyPartIs (p : Part) (a : Aid) (to : List ℕ) (r : Result (std.Option ℕ) Refusal) (after : List ℕ) : Type 0 where
   pub reply : copied_as_reply r ≡ copy_of (part_of p a) (length to)
   pub buffer : after ≡ copy_to (part_of p a) to
 
 -- the contract of the private `span_of`: a span of the 16 bytes lies in them and holds the bytes of the part
-abbrev pub span_bytes : List ℕ → Span → Option (List ℕ)
-span_bytes l (span.Of s e) = some (take (e - s) (drop s l))
-span_bytes l span.None = none
+abbrev pub span_bytes : List ℕ → std.Option (ℕ × ℕ) → Option (List ℕ)
+span_bytes l (std.Some (s, e)) = some (take (e - s) (drop s l))
+span_bytes l std.None = none
 
-abbrev pub SpanInside : Span → Type 0
-SpanInside (span.Of s e) = (s ≤ e) × (e ≤ 16)
-SpanInside span.None = Unit {0}
+abbrev pub SpanInside : std.Option (ℕ × ℕ) → Type 0
+SpanInside (std.Some (s, e)) = (s ≤ e) × (e ≤ 16)
+SpanInside std.None = Unit {0}
 
-pub record SpanFor (p : Part) (a : Aid) (r : Span) : Type 0 where
+pub record SpanFor (p : Part) (a : Aid) (r : std.Option (ℕ × ℕ)) : Type 0 where
   pub shows : span_bytes a.bytes r ≡ part_of p a
   pub inside : SpanInside r

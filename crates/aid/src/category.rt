@@ -6,7 +6,7 @@ ghost use Rattle.aid.specs.Category.{international, national, standard, propriet
 use crate::Aid;
 
 // The category of an AID: the high half of its first byte says it.
-#[derive(Clone, Copy)]
+#[derive(Clone, Copy, PartialEq, Eq)]
 pub enum Category {
     International,
     National,
@@ -16,11 +16,11 @@ pub enum Category {
 }
 
 // The category of a name that starts with this byte (rule 9.3).
+#[tactic(auto, unfolding(crate::specs::Category::category_of))]
 pub(crate) fn of(first: u8) -> Category
     ensures { category_as_number result ≡ category_of first }
 {
-    let high = first / 16;
-    match high {
+    match first / 16 {
         0xA => Category::International,
         0xD => Category::National,
         0xE => Category::Standard,
@@ -29,33 +29,19 @@ pub(crate) fn of(first: u8) -> Category
     }
 }
 
-// The number of a category, to compare two of them.
-fn number(k: Category) -> u8
-    ensures { result ≡ category_as_number k }
-{
-    match k {
-        Category::International => 0,
-        Category::National => 1,
-        Category::Standard => 2,
-        Category::Proprietary => 3,
-        Category::Other => 4,
-    }
-}
-
 impl Aid {
     // The category of the first byte.
     pub fn category(self) -> Category
         ensures { CategoryIs self result }
     {
-        let bytes = self.bytes;
-        of(bytes[0])
+        of(self.bytes[0])
     }
 
     // Whether an AID is of this category.
     fn is_in(self, k: Category) -> bool
         ensures { IsInIs (category_as_number k) self result }
     {
-        number(self.category()) == number(k)
+        self.category() == k
     }
 
     // One test for each category but `Other`.

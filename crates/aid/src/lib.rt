@@ -3,17 +3,20 @@
 #![tactic(auto)]
 
 ghost use Rattle.std.specs.Prelude.{◌≡◌};
-ghost use Rattle.aid.specs.Making.{tested, under_five, as_reply, TryNewIs, TryNewTruncatableIs};
+ghost use Rattle.basis.specs.Refusal.{as_reply};
+ghost use Rattle.aid.specs.Making.{tested, under_five, TryNewIs, TryNewTruncatableIs};
 
 mod category;
 mod matches;
 mod part;
 
+use basis::Refusal;
 pub use category::Category;
-pub use part::{Copied, Length, Part};
+pub use part::Part;
 
 // An AID: its bytes with zeros after them, how many they are, and the length to which a name may be truncated.
 // Only `try_new` and `try_new_truncatable` make one.
+// Stays: a length beside the bytes, since the library has no heap.
 #[derive(Clone, Copy)]
 pub struct Aid {
     bytes: [u8; 16],
@@ -21,17 +24,11 @@ pub struct Aid {
     truncated: usize,
 }
 
-// The AID was made, or it was refused with 6 to 10.
-#[derive(Clone, Copy)]
-pub enum Answer {
-    Made,
-    Refused(u8),
-}
-
-// The answer, and the AID. With a refusal the AID is that of the one byte 00.
+// Whether the AID was made or refused with 6 to 10, and the AID. With a refusal the AID is that of the one byte 00.
+// Stays: a refusal has an AID too, which the promise TryNewTruncatableIs names.
 #[derive(Clone, Copy)]
 pub struct TryNew {
-    pub answer: Answer,
+    pub answer: Result<(), Refusal>,
     pub aid: Aid,
 }
 
@@ -43,36 +40,36 @@ const BLANK: Aid = Aid {
 };
 
 // Whether a name of under five bytes may be an AID, by its first byte (rules 1.9 and 1.10).
-fn under_five(first: u8) -> Answer
+#[tactic(auto, unfolding(crate::specs::Making::under_five))]
+fn under_five(first: u8) -> Result<(), Refusal>
     ensures { as_reply result ≡ under_five first }
 {
     match category::of(first) {
-        Category::National => Answer::Refused(9),
-        Category::International => Answer::Refused(10),
-        Category::Standard => Answer::Made,
-        Category::Proprietary => Answer::Made,
-        Category::Other => Answer::Made,
+        Category::National => Err(Refusal::NationalTooShort),
+        Category::International => Err(Refusal::InternationalTooShort),
+        Category::Standard | Category::Proprietary | Category::Other => Ok(()),
     }
 }
 
 // Whether a name may be an AID with this truncated length (rule 9.1).
-fn test_name(aid: &[u8], truncated_len: usize) -> Answer
+#[tactic(auto, unfolding(crate::specs::Making::tested))]
+fn test_name(aid: &[u8], truncated_len: usize) -> Result<(), Refusal>
     ensures { as_reply result ≡ tested aid.now truncated_len }
 {
     let n = aid.len();
     if n == 0 {
-        return Answer::Refused(6);
+        return Err(Refusal::NameEmpty);
     }
     if 16 < n {
-        return Answer::Refused(7);
+        return Err(Refusal::NameTooLong);
     }
     if n < truncated_len {
-        return Answer::Refused(8);
+        return Err(Refusal::TruncatedAboveName);
     }
     if n < 5 {
         return under_five(aid[0]);
     }
-    Answer::Made
+    Ok(())
 }
 
 impl Aid {
@@ -80,28 +77,28 @@ impl Aid {
     pub fn try_new(aid: &[u8]) -> TryNew
         ensures { TryNewIs aid.now result }
     {
-        let n = aid.len();
-        Aid::try_new_truncatable(aid, n)
+        Aid::try_new_truncatable(aid, aid.len())
     }
 
     // The AID of a name that may be truncated to a length (rule 9.1).
+    #[tactic(auto, using(crate::proofs::Making::made_from_name, crate::proofs::Making::name_refused))]
     pub fn try_new_truncatable(aid: &[u8], truncated_len: usize) -> TryNew
         ensures { TryNewTruncatableIs aid.now truncated_len result }
     {
         match test_name(aid, truncated_len) {
-            Answer::Refused(k) => TryNew {
-                answer: Answer::Refused(k),
+            Err(k) => TryNew {
+                answer: Err(k),
                 aid: BLANK,
             },
-            Answer::Made => {
-                let mut padded = [0u8; 16];
-                let n = aid.len();
-                padded[..n].copy_from_slice(aid);
+            Ok(()) => {
+                let mut bytes = [0u8; 16];
+                let len = aid.len();
+                bytes[..len].copy_from_slice(aid);
                 TryNew {
-                    answer: Answer::Made,
+                    answer: Ok(()),
                     aid: Aid {
-                        bytes: padded,
-                        len: n,
+                        bytes,
+                        len,
                         truncated: truncated_len,
                     },
                 }

@@ -3,22 +3,14 @@
 ghost use Rattle.aid.specs.Matches.{MatchesIs};
 
 use crate::Aid;
-use crate::part::up_to_16;
 
 impl Aid {
     // Whether a name matches: it is a prefix of the AID, and at least as long as the truncated length (rule 9.5). With
     // truncated length 0 the empty name matches (rule 9.6).
+    #[tactic(auto, using(crate::proofs::Prefix::too_short, crate::proofs::Prefix::tested_as_front))]
     pub fn matches(self, aid: &[u8]) -> bool
         ensures { MatchesIs self aid.now result }
     {
-        let n = aid.len();
-        if n < self.truncated {
-            return false;
-        }
-        if up_to_16(self.len) < n {
-            return false;
-        }
-        let bytes = self.bytes;
-        byte_slices::same(aid, &bytes[..n])
+        self.truncated <= aid.len() && self.bytes[..self.len.min(16)].starts_with(aid)
     }
 }

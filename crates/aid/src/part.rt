@@ -1,9 +1,10 @@
 // The parts of an AID, as lengths and copies (rule 9.4).
 // Ported, with changes, from src/aid.rs of the crate iso7816 0.2.2 (see NOTICE).
-ghost use Rattle.std.specs.Prelude.{◌≡◌, min};
+ghost use Rattle.std.specs.Prelude.{◌≡◌};
 ghost use Rattle.aid.specs.Parts.{has_rid, SpanFor, PartLenIs, CopyPartIs};
 
 use crate::{Aid, Category};
+use basis::Refusal;
 
 // The parts of an AID: all its bytes, the truncated part, the registered application provider (RID), and what follows
 // it (PIX).
@@ -15,101 +16,50 @@ pub enum Part {
     Pix,
 }
 
-// How many bytes a part has; `None` if there is no such part.
-#[derive(Clone, Copy)]
-pub enum Length {
-    Bytes(usize),
-    None,
-}
-
-// How many bytes were copied; `None` if there is no such part; 16 if it is longer than the buffer.
-#[derive(Clone, Copy)]
-pub enum Copied {
-    Bytes(usize),
-    None,
-    Refused(u8),
-}
-
-// Where a part starts and ends among the 16 bytes.
-#[derive(Clone, Copy)]
-enum Span {
-    Of(usize, usize),
-    None,
-}
-
-// A length, but at most the 16 bytes that there are.
-pub(crate) fn up_to_16(n: usize) -> usize
-    ensures { result ≡ min n 16 }
-{
-    if n <= 16 { n } else { 16 }
-}
-
 // Whether an AID has a RID and a PIX: it is national or international, and has at least five bytes (rule 9.4).
+#[tactic(auto, unfolding(crate::specs::Parts::has_rid))]
 fn has_rid(aid: Aid) -> bool
     ensures { result ≡ has_rid aid }
 {
-    let long = 5 <= up_to_16(aid.len);
-    match aid.category() {
-        Category::International => long,
-        Category::National => long,
-        Category::Standard => false,
-        Category::Proprietary => false,
-        Category::Other => false,
-    }
+    matches!(aid.category(), Category::International | Category::National) && 5 <= aid.len.min(16)
 }
 
-// Where a part stands.
-fn span_of(aid: Aid, part: Part) -> Span
+// Where a part starts and ends among the 16 bytes, if there is such a part.
+#[tactic(auto, unfolding(crate::specs::Parts::part_of), using(crate::proofs::Spans::rid_for, crate::proofs::Spans::pix_for))]
+fn span_of(aid: Aid, part: Part) -> Option<(usize, usize)>
     ensures { SpanFor part aid result }
 {
-    let end = up_to_16(aid.len);
+    let end = aid.len.min(16);
     match part {
-        Part::Bytes => Span::Of(0, end),
-        Part::Truncated => Span::Of(0, up_to_16(aid.truncated)),
-        Part::Rid => {
-            if has_rid(aid) {
-                Span::Of(0, 5)
-            } else {
-                Span::None
-            }
-        }
-        Part::Pix => {
-            if has_rid(aid) {
-                Span::Of(5, end)
-            } else {
-                Span::None
-            }
-        }
+        Part::Bytes => Some((0, end)),
+        Part::Truncated => Some((0, aid.truncated.min(16))),
+        Part::Rid => has_rid(aid).then_some((0, 5)),
+        Part::Pix => has_rid(aid).then_some((5, end)),
     }
 }
 
 impl Aid {
-    // How many bytes a part has.
-    pub fn part_len(self, part: Part) -> Length
+    // How many bytes a part has, if there is such a part.
+    pub fn part_len(self, part: Part) -> Option<usize>
         ensures { PartLenIs part self result }
     {
-        match span_of(self, part) {
-            Span::Of(start, end) => Length::Bytes(end - start),
-            Span::None => Length::None,
-        }
+        let (start, end) = span_of(self, part)?;
+        Some(end - start)
     }
 
-    // Copies a part to the front of a lent buffer (rule 9.4).
-    pub fn copy_part(self, part: Part, to: &mut [u8]) -> Copied
+    // Copies a part to the front of a lent buffer, and says how many bytes were copied: none if there is no such part,
+    // 16 if it is longer than the buffer (rule 9.4).
+    pub fn copy_part(self, part: Part, to: &mut [u8]) -> Result<Option<usize>, Refusal>
         ensures { CopyPartIs part self to.old result to.new }
     {
-        match span_of(self, part) {
-            Span::None => Copied::None,
-            Span::Of(start, end) => {
-                let n = end - start;
-                if to.len() < n {
-                    return Copied::Refused(16);
-                }
-                let bytes = self.bytes;
-                let piece = &bytes[start..end];
-                to[..n].copy_from_slice(piece);
-                Copied::Bytes(n)
-            }
+        let Some((start, end)) = span_of(self, part) else {
+            return Ok(None);
+        };
+        let n = end - start;
+        if to.len() < n {
+            return Err(Refusal::DoesNotFit);
         }
+        to[..n].copy_from_slice(&self.bytes[start..end]);
+        Ok(Some(n))
     }
 }

@@ -3,7 +3,8 @@ use Rattle.std.specs.Prelude.{ℕ, ◌≡◌, cond, List, [], ◌∷◌, eqb, lt
 use Rattle.std.proofs.Math.Option.{Option}
 use Rattle.basis.specs.Reply.{Reply, ok, refused, then, status}
 use Rattle.aid.specs.Category.{international, national, standard, proprietary, category, is_in}
-use Rattle.aid.specs.Making.{try_new, as_reply}
+use Rattle.basis.specs.Refusal.{as_reply}
+use Rattle.aid.specs.Making.{try_new}
 use Rattle.aid.specs.Parts.{part_of, length_of, copy_of, copy_to}
 use Rattle.aid.specs.Matches.{matches_of}
 use Rattle.aid.specs.declared.Aid.{Aid}

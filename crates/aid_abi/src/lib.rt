@@ -4,40 +4,24 @@
 #![tactic(auto)]
 
 ghost use Rattle.std.specs.Prelude.{◌≡◌};
-ghost use Rattle.aid.specs.Category.{category_as_number};
 ghost use Rattle.aid.specs.Making.{try_new};
-ghost use Rattle.aid.specs.Parts.{length_as_option};
+ghost use Rattle.basis.specs.Refusal.{as_option};
 ghost use Rattle.basis.specs.Reply.{ok};
 ghost use Rattle.abi.specs.Answers.{NumbersWritten, or_none};
 ghost use Rattle.aid_abi.specs.Numbers.{numbers_of, part_by_number, made_reply, aid_reply, aid_whole_reply, aid_matches_reply, PartCopied};
 
 use abi::{flag, refusal_status, write_numbers};
-use aid::{Aid, Answer, Category, Copied, Length, Part, TryNew};
-
-// The number of a category.
-fn category_number(category: Category) -> u64
-    ensures { result ≡ category_as_number category }
-{
-    match category {
-        Category::International => 0,
-        Category::National => 1,
-        Category::Standard => 2,
-        Category::Proprietary => 3,
-        Category::Other => 4,
-    }
-}
+use aid::{Aid, Part, TryNew};
 
 // A length as a number, 256 if there is no such part.
-fn length_number(length: Length) -> u64
-    ensures { result ≡ or_none (length_as_option length) }
+fn length_number(length: Option<usize>) -> u64
+    ensures { result ≡ or_none (as_option length) }
 {
-    match length {
-        Length::Bytes(n) => n as u64,
-        Length::None => 256,
-    }
+    length.map_or(256, |n| n as u64)
 }
 
 // The part by number: 0 all bytes, 1 the truncated part, 2 the RID, any other the PIX.
+#[tactic(auto, unfolding(crate::specs::Numbers::part_by_number))]
 fn part_by_number(part: u8) -> Part
     ensures { result ≡ part_by_number part }
 {
@@ -50,13 +34,14 @@ fn part_by_number(part: u8) -> Part
 }
 
 // The nine numbers of an AID.
+#[tactic(auto, unfolding(crate::specs::Numbers::numbers_of))]
 fn numbers(aid: Aid) -> [u64; 9]
     ensures { result ≡ numbers_of aid }
 {
     [
         length_number(aid.part_len(Part::Bytes)),
         length_number(aid.part_len(Part::Truncated)),
-        category_number(aid.category()),
+        aid.category() as u64,
         flag(aid.is_international()),
         flag(aid.is_national()),
         flag(aid.is_standard()),
@@ -67,21 +52,19 @@ fn numbers(aid: Aid) -> [u64; 9]
 }
 
 // Writes the nine numbers of the AID that was made of a name, unless it was refused.
+#[tactic(auto, unfolding(crate::specs::Numbers::numbers_of), using(abi::proofs::AnswerLaws::refusal_written))]
 fn write_made(made: TryNew, out: &mut [u64]) -> u8
     ensures { NumbersWritten 9 (made_reply made) out.old result out.new }
 {
-    let answer = made.answer;
-    match answer {
-        Answer::Refused(k) => refusal_status(k, out.len(), 9),
-        Answer::Made => {
-            let row = numbers(made.aid);
-            write_numbers(&row, out)
-        }
+    match made.answer {
+        Ok(()) => write_numbers(&numbers(made.aid), out),
+        Err(refusal) => refusal_status(refusal.number(), out.len(), 9),
     }
 }
 
 // Writes 9 numbers: length; truncated length; category and the tests for the first four (rule 9.3); lengths of RID and
 // PIX, 256 for none (rule 9.4).
+#[tactic(auto, unfolding(crate::specs::Numbers::aid_reply))]
 #[unsafe(no_mangle)]
 pub extern "C" fn gorvisclen_aid(name: &[u8], truncated_len: usize, out: &mut [u64]) -> u8
     ensures { NumbersWritten 9 (aid_reply name.now truncated_len) out.old result out.new }
@@ -90,6 +73,7 @@ pub extern "C" fn gorvisclen_aid(name: &[u8], truncated_len: usize, out: &mut [u
 }
 
 // Writes the same 9 numbers of an AID that is made without a truncated length (rule 9.2).
+#[tactic(auto, unfolding(crate::specs::Numbers::aid_reply, crate::specs::Numbers::aid_whole_reply))]
 #[unsafe(no_mangle)]
 pub extern "C" fn gorvisclen_aid_whole(name: &[u8], out: &mut [u64]) -> u8
     ensures { NumbersWritten 9 (aid_whole_reply name.now) out.old result out.new }
@@ -98,6 +82,7 @@ pub extern "C" fn gorvisclen_aid_whole(name: &[u8], out: &mut [u64]) -> u8
 }
 
 // Writes one number: 1 if the name `asked` matches the AID, else 0 (rules 9.5 and 9.6).
+#[tactic(auto, unfolding(crate::specs::Numbers::aid_matches_reply), using(abi::proofs::AnswerLaws::refusal_written))]
 #[unsafe(no_mangle)]
 pub extern "C" fn gorvisclen_aid_matches(
     name: &[u8],
@@ -108,13 +93,9 @@ pub extern "C" fn gorvisclen_aid_matches(
     ensures { NumbersWritten 1 (aid_matches_reply name.now truncated_len asked.now) out.old result out.new }
 {
     let made = Aid::try_new_truncatable(name, truncated_len);
-    let answer = made.answer;
-    match answer {
-        Answer::Refused(k) => refusal_status(k, out.len(), 1),
-        Answer::Made => {
-            let row = [flag(made.aid.matches(asked))];
-            write_numbers(&row, out)
-        }
+    match made.answer {
+        Ok(()) => write_numbers(&[flag(made.aid.matches(asked))], out),
+        Err(refusal) => refusal_status(refusal.number(), out.len(), 1),
     }
 }
 
@@ -126,15 +107,8 @@ fn copy(aid: Aid, part: Part, to: &mut [u8], out: &mut [u64]) -> u8
         return 16;
     }
     match aid.copy_part(part, to) {
-        Copied::Refused(k) => k,
-        Copied::Bytes(n) => {
-            out[0] = n as u64;
-            0
-        }
-        Copied::None => {
-            out[0] = 256;
-            0
-        }
+        Ok(length) => write_numbers(&[length_number(length)], out),
+        Err(refusal) => refusal.number(),
     }
 }
 
@@ -151,9 +125,8 @@ pub extern "C" fn gorvisclen_aid_part(
         to.new out.new }
 {
     let made = Aid::try_new_truncatable(name, truncated_len);
-    let answer = made.answer;
-    match answer {
-        Answer::Refused(k) => refusal_status(k, out.len(), 1),
-        Answer::Made => copy(made.aid, part_by_number(part), to, out),
+    match made.answer {
+        Ok(()) => copy(made.aid, part_by_number(part), to, out),
+        Err(refusal) => refusal_status(refusal.number(), out.len(), 1),
     }
 }

@@ -1,13 +1,12 @@
 -- Laws of a list with another one written into it. The proof of every writer cites them.
 use mathlib.Core.Path.{◌≡◌, sym, ap, ◌∙◌}
 use mathlib.Core.List.{List, [], ◌∷◌, ◌++◌, append_assoc, append-nil}
-use Prim.Native.Nat.{ℕ, zero, suc, min, ◌+◌, ◌-◌, ◌≤◌, ◌<◌}
+use Prim.Native.Nat.{ℕ, zero, suc, min, ◌+◌, ◌-◌, ◌≤◌}
 use native.Mathlib.Decide.{dec_le}
 use native.Mathlib.Nat.{add_assoc, zero-add, sub-zero, zero-sub, suc-sub-suc, min-eq_left}
-use native.Mathlib.Numerals.{add-one}
 use native.Mathlib.Omega.{arith}
-use lib.ListN.{length, take, drop, set, get_or, length-append, length-drop, drop_of_length-le}
-use lib.Seq.{take-nil, paste-suc, take-length, sets, sets-eq, take_all, take_at, take-take, take-append-le, drop_at, drop-drop, length-take-le, drop-append-add}
+use lib.ListN.{length, take, drop, length-append, length-drop, drop_of_length-le}
+use lib.Seq.{take-nil, take-length, sets, sets-eq, take_all, take_at, take-take, take-append-le, drop_at, drop-drop, length-take-le, drop-append-add}
 use borrow.Rule.Slice.PartMut.{put_mid}
 use Rattle.basis.specs.Over.{over, over_at}
 
@@ -49,10 +48,6 @@ copied_at at k vs ys l h e = rw (h, e, drop-drop)
 pub copied_front : (k : ℕ) (vs ys l : List ℕ) → ys ≡ vs → k ≡ length vs → put_mid 0 k l ys ≡ over vs l
 unfolding over
 copied_front k vs ys l h e = rw (h, e)
-
-pub copy_next : (vs l : List ℕ) (j : ℕ) → j < length vs → length vs ≤ length l
-    → set (take j vs ++ drop j l) j (get_or vs j 0) ≡ take (j + 1) vs ++ drop (j + 1) l
-copy_next vs l j h g = rw add-one (simp zero-add at (paste-suc l 0 vs j 0 (omega arith) h))
 
 pub length_over : (vs l : List ℕ) → length vs ≤ length l → length (over vs l) ≡ length l
 unfolding over

@@ -13,10 +13,6 @@ refused_not_ok k a e = let z : ◌≡◌ {A = ℕ} 0 1 = cc in omega arith
 pub apart : {A B : Type 0} (asReply : A → B) (back : B → A) → ((x : A) → back (asReply x) ≡ x) → (x y : A) → asReply x ≡ asReply y → x ≡ y
 apart asReply back h x y e = sym (h x) ∙ ap back e ∙ h y
 
--- an answer x that the code has matched as y: the reply of the definition is that of y
-pub matched_reply : {A B : Type 0} (asReply : A → B) {x y : A} {b : B} → asReply x ≡ b → x ≡ y → b ≡ asReply y
-matched_reply asReply e f = sym e ∙ ap asReply f
-
 -- a reply is a value or a refusal
 pub by_reply : {E A P : Type 0} (x : Told E A) → ((a : A) → x ≡ ok a → P) → ((k : E) → x ≡ refused k → P) → P
 by_reply (ok a) h g = h a refl

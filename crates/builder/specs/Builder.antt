@@ -1,13 +1,13 @@
 -- Making a builder and forcing extended lengths. Rules 3.1 and 3.2; refusals 3, 13 and 15.
-use Rattle.std.specs.Prelude.{ℕ, ◌≡◌, cond, List, ltb, length}
+use Rattle.std.specs.Prelude.{ℕ, ◌≡◌, Result, cond, List, ltb, length}
 use Rattle.basis.specs.Reply.{Reply, ok, refused, then}
+use Rattle.basis.specs.Refusal.{as_reply}
+use Rattle.basis.specs.declared.refusal.Refusal.{Refusal}
 use Rattle.class.specs.Class.{from_byte}
 use Rattle.builder.specs.declared.ExpectedLen.{ExpectedLen}
 use Rattle.builder.specs.declared.ExtendedLen.{ExtendedLen}
 use Rattle.builder.specs.declared.ExtendedLen.TheVariants.{Unsupported, Supported, Forced}
 use Rattle.builder.specs.declared.CommandBuilder.{CommandBuilder}
-use Rattle.builder.specs.declared.Built.{Built}
-use Rattle.builder.specs.declared.Built.TheVariants.{Builder, Refused}
 
 -- the reply x for n data bytes, or 13 if they are above 65,535 (rule 1.13)
 abbrev pub unless_long : {A : Type 0} → ℕ → Reply A → Reply A
@@ -28,14 +28,9 @@ forced_of b Unsupported = refused 15
 forced_of b Supported = ok (in_mode b Forced)
 forced_of b Forced = ok (in_mode b Forced)
 
--- an answer as a reply
-abbrev pub as_reply : Built → Reply CommandBuilder
-as_reply (Builder b) = ok b
-as_reply (Refused k) = refused k
-
 -- the promises of `new` and `force_extended`
-abbrev pub NewIs : ℕ → ℕ → ℕ → ℕ → List ℕ → ExpectedLen → ExtendedLen → Built → Type 0
+abbrev pub NewIs : ℕ → ℕ → ℕ → ℕ → List ℕ → ExpectedLen → ExtendedLen → Result CommandBuilder Refusal → Type 0
 NewIs c i p q d e m x = as_reply x ≡ new_of c i p q (length d) e m
 
-abbrev pub ForceExtendedIs : CommandBuilder → Built → Type 0
+abbrev pub ForceExtendedIs : CommandBuilder → Result CommandBuilder Refusal → Type 0
 ForceExtendedIs b x = as_reply x ≡ forced_of b b.mode

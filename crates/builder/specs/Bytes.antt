@@ -1,7 +1,9 @@
 -- The bytes of a command, their number, and the buffer that they are written into. Rules 3.3, 3.9 and 11.9.
-use Rattle.std.specs.Prelude.{ℕ, ◌+◌, ◌≡◌, cond, List, [], ◌∷◌, ltb, leb, length}
+use Rattle.std.specs.Prelude.{ℕ, ◌+◌, ◌≡◌, Result, cond, List, [], ◌∷◌, ltb, leb, length}
 use Rattle.basis.specs.Reply.{Reply, ok, refused}
+use Rattle.basis.specs.Refusal.{as_reply}
 use Rattle.basis.specs.Over.{over_at}
+use Rattle.basis.specs.declared.refusal.Refusal.{Refusal}
 use Rattle.builder.specs.Builder.{unless_long}
 use Rattle.builder.specs.Cases.{Case, case_bytes, lc_bytes, le_bytes, case_for}
 use Rattle.builder.specs.declared.ExpectedLen.{ExpectedLen}
@@ -9,8 +11,6 @@ use Rattle.builder.specs.declared.ExpectedLen.TheVariants.{Ne, Max}
 use Rattle.builder.specs.declared.ExtendedLen.{ExtendedLen}
 use Rattle.builder.specs.declared.ExtendedLen.TheVariants.{Unsupported, Supported, Forced}
 use Rattle.builder.specs.declared.CommandBuilder.{CommandBuilder}
-use Rattle.builder.specs.declared.sizes.Length.{Length}
-use Rattle.builder.specs.declared.sizes.Length.TheVariants.{Bytes, Refused}
 
 -- the expected length as a number: Max is 65,536, the most that two bytes show
 abbrev pub le_number : ExpectedLen → ℕ
@@ -74,19 +74,14 @@ abbrev pub buffer_after : Reply ℕ → CommandBuilder → List ℕ → List ℕ
 buffer_after (ok n) b d buffer at = over_at at (command_of b d) buffer
 buffer_after (refused k) b d buffer at = buffer
 
--- an answer as a reply
-abbrev pub as_reply : Length → Reply ℕ
-as_reply (Bytes n) = ok n
-as_reply (Refused k) = refused k
-
 -- the promises of `lowered` and `required_len`
 abbrev pub LoweredIs : CommandBuilder → CommandBuilder → Type 0
 LoweredIs b x = x ≡ lowered_of b
 
-abbrev pub RequiredLenIs : CommandBuilder → List ℕ → Length → Type 0
+abbrev pub RequiredLenIs : CommandBuilder → List ℕ → Result ℕ Refusal → Type 0
 RequiredLenIs b d x = as_reply x ≡ unless_long (length d) (ok (required_len b (length d)))
 
 -- the promise of `serialize_into`
-pub record SerializeIntoIs (b : CommandBuilder) (d before : List ℕ) (at : ℕ) (x : Length) (after : List ℕ) : Type 0 where
+pub record SerializeIntoIs (b : CommandBuilder) (d before : List ℕ) (at : ℕ) (x : Result ℕ Refusal) (after : List ℕ) : Type 0 where
   pub reply : as_reply x ≡ serialize_of b d (length before) at
   pub buffer : after ≡ buffer_after (serialize_of b d (length before) at) b d before at

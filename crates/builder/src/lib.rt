@@ -3,16 +3,13 @@
 // Ported, with changes, from src/command.rs of the crate iso7816 0.2.2 (see NOTICE).
 #![tactic(auto)]
 
-ghost use Rattle.std.specs.Prelude.{◌≡◌};
-ghost use Rattle.basis.specs.Reply.{ok};
-ghost use Rattle.builder.specs.Builder.{in_mode, as_reply, NewIs, ForceExtendedIs};
-ghost use Rattle.builder.specs.declared.ExtendedLen.TheVariants.{Forced};
+ghost use Rattle.builder.specs.Builder.{NewIs, ForceExtendedIs};
 
 mod sizes;
 mod write;
 
-use class::{Class, FromByte};
-pub use sizes::Length;
+use basis::Refusal;
+use class::Class;
 
 // The expected length: how many bytes are expected in return, a number or the most there can be (rule 3.1).
 #[derive(Clone, Copy)]
@@ -22,7 +19,7 @@ pub enum ExpectedLen {
 }
 
 // The mode: short lengths only, extended ones if they are needed, or extended ones always (rule 3.1).
-#[derive(Clone, Copy)]
+#[derive(Clone, Copy, PartialEq, Eq)]
 pub enum ExtendedLen {
     Unsupported,
     Supported,
@@ -40,33 +37,11 @@ pub struct CommandBuilder {
     pub mode: ExtendedLen,
 }
 
-// A builder, or the refusal: 3 for the class byte 0xFF, 13 for data above 65,535 bytes, 15 for extended lengths that
-// are forced but unsupported (rules 1.3, 1.13 and 1.15).
-#[derive(Clone, Copy)]
-pub enum Built {
-    Builder(CommandBuilder),
-    Refused(u8),
-}
-
-// The builder with its mode set to forced, and nothing else changed (rule 3.2).
-fn forced(builder: CommandBuilder) -> Built
-    ensures { as_reply result ≡ ok (in_mode builder Forced) }
-{
-    let class = builder.class;
-    let le = builder.le;
-    let mode = ExtendedLen::Forced;
-    Built::Builder(CommandBuilder {
-        class,
-        instruction: builder.instruction,
-        p1: builder.p1,
-        p2: builder.p2,
-        le,
-        mode,
-    })
-}
-
 impl CommandBuilder {
-    // Makes a builder: the class byte is tested first, then the length of the data, which are not kept (rule 3.2).
+    // Makes a builder: the class byte is tested first (3), then the length of the data (13), which are not kept (rules
+    // 1.3, 1.13 and 3.2).
+    // Stays: class, instruction, P1 and P2 go in one by one; the struct that holds them is what this function makes.
+    #[tactic(auto, unfolding(crate::specs::Builder::new_of))]
     pub fn new(
         class: u8,
         instruction: u8,
@@ -75,36 +50,33 @@ impl CommandBuilder {
         data: &[u8],
         le: ExpectedLen,
         mode: ExtendedLen,
-    ) -> Built
+    ) -> Result<CommandBuilder, Refusal>
         ensures { NewIs class instruction p1 p2 «data».now le mode result }
     {
-        match Class::from_byte(class) {
-            FromByte::Refused(k) => Built::Refused(k),
-            FromByte::Class(class) => {
-                if 65535 < data.len() {
-                    return Built::Refused(13);
-                }
-                Built::Builder(CommandBuilder {
-                    class,
-                    instruction,
-                    p1,
-                    p2,
-                    le,
-                    mode,
-                })
-            }
+        let class = Class::from_byte(class)?;
+        if 65535 < data.len() {
+            return Err(Refusal::DataTooLong);
         }
+        Ok(CommandBuilder {
+            class,
+            instruction,
+            p1,
+            p2,
+            le,
+            mode,
+        })
     }
 
-    // The builder with extended lengths always; 15 if it is short only (rule 3.2).
-    pub fn force_extended(self) -> Built
+    // The builder with extended lengths always, and nothing else changed; 15 if it is short only (rules 1.15 and 3.2).
+    pub fn force_extended(self) -> Result<CommandBuilder, Refusal>
         ensures { ForceExtendedIs self result }
     {
-        let mode = self.mode;
-        match mode {
-            ExtendedLen::Unsupported => Built::Refused(15),
-            ExtendedLen::Supported => forced(self),
-            ExtendedLen::Forced => forced(self),
+        if self.mode == ExtendedLen::Unsupported {
+            return Err(Refusal::ExtendedUnsupported);
         }
+        Ok(CommandBuilder {
+            mode: ExtendedLen::Forced,
+            ..self
+        })
     }
 }

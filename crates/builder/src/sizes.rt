@@ -2,17 +2,11 @@
 // Ported, with changes, from src/command.rs of the crate iso7816 0.2.2 (see NOTICE).
 ghost use Rattle.std.specs.Prelude.{◌≡◌};
 ghost use Rattle.builder.specs.Bytes.{le_number, lowered_len, LoweredIs, RequiredLenIs};
-ghost use Rattle.builder.specs.Sizes.{is_forced, extended, lc_size, le_size, fields_of};
+ghost use Rattle.builder.specs.Sizes.{extended, lc_size, le_size, fields_of};
 ghost use Rattle.builder.specs.declared.ExtendedLen.TheVariants.{Unsupported};
 
 use crate::{CommandBuilder, ExpectedLen, ExtendedLen};
-
-// A number of bytes, or the refusal: 13 for data above 65,535 bytes, 16 for a buffer that is too short from the place.
-#[derive(Clone, Copy)]
-pub enum Length {
-    Bytes(usize),
-    Refused(u8),
-}
+use basis::Refusal;
 
 // How many bytes Lc and Le take, and the number that is written as Le.
 #[derive(Clone, Copy)]
@@ -27,7 +21,7 @@ fn le_number(le: ExpectedLen) -> usize
     ensures { result ≡ le_number le }
 {
     match le {
-        ExpectedLen::Ne(n) => n as usize,
+        ExpectedLen::Ne(n) => usize::from(n),
         ExpectedLen::Max => 65536,
     }
 }
@@ -37,13 +31,9 @@ fn at_most_256(le: ExpectedLen) -> ExpectedLen
     ensures { result ≡ lowered_len Unsupported le }
 {
     match le {
-        ExpectedLen::Ne(n) => {
-            if n <= 256 {
-                return ExpectedLen::Ne(n);
-            }
-            ExpectedLen::Ne(256)
-        }
-        ExpectedLen::Max => ExpectedLen::Ne(256),
+        // Stays: with `n.min(256)`, writing a command takes 80 bytes of the stack in place of 64.
+        ExpectedLen::Ne(n) if n <= 256 => ExpectedLen::Ne(n),
+        _ => ExpectedLen::Ne(256),
     }
 }
 
@@ -53,36 +43,20 @@ fn lowered_len(mode: ExtendedLen, le: ExpectedLen) -> ExpectedLen
 {
     match mode {
         ExtendedLen::Unsupported => at_most_256(le),
-        ExtendedLen::Supported => le,
-        ExtendedLen::Forced => le,
-    }
-}
-
-// Whether extended lengths are forced.
-fn is_forced(mode: ExtendedLen) -> bool
-    ensures { result ≡ is_forced mode }
-{
-    match mode {
-        ExtendedLen::Unsupported => false,
-        ExtendedLen::Supported => false,
-        ExtendedLen::Forced => true,
+        ExtendedLen::Supported | ExtendedLen::Forced => le,
     }
 }
 
 // Whether lengths are extended, for n data bytes and a written Le of e (rules 3.4 and 3.7).
+#[tactic(auto, unfolding(crate::specs::Sizes::extended))]
 fn extended(mode: ExtendedLen, n: usize, e: usize) -> bool
     ensures { result ≡ extended mode n e }
 {
-    if 255 < n {
-        return true;
-    }
-    if 256 < e {
-        return true;
-    }
-    is_forced(mode)
+    255 < n || 256 < e || mode == ExtendedLen::Forced
 }
 
 // How many bytes Lc takes: none without data, three if extended, else one (rules 3.4 and 3.5).
+#[tactic(auto, unfolding(crate::specs::Sizes::lc_size))]
 fn lc_size(extended: bool, n: usize) -> usize
     ensures { result ≡ lc_size extended n }
 {
@@ -93,6 +67,7 @@ fn lc_size(extended: bool, n: usize) -> usize
 }
 
 // How many bytes Le takes: none for 0; if extended, three without data and two after Lc; else one (rules 3.6 and 3.7).
+#[tactic(auto, unfolding(crate::specs::Sizes::le_size))]
 fn le_size(extended: bool, n: usize, e: usize) -> usize
     ensures { result ≡ le_size extended n e }
 {
@@ -109,13 +84,12 @@ fn le_size(extended: bool, n: usize, e: usize) -> usize
 }
 
 // The sizes of Lc and Le for n data bytes, and the written Le.
+#[tactic(auto, using(crate::proofs::Cases::lc_sized, crate::proofs::Cases::le_sized), unfolding(crate::specs::Bytes::le_written))]
 pub(crate) fn sizes(builder: CommandBuilder, n: usize) -> Fields
     ensures { result ≡ fields_of builder n }
 {
-    let le = builder.le;
-    let mode = builder.mode;
-    let written = le_number(lowered_len(mode, le));
-    let is_extended = extended(mode, n, written);
+    let written = le_number(lowered_len(builder.mode, builder.le));
+    let is_extended = extended(builder.mode, n, written);
     Fields {
         lc: lc_size(is_extended, n),
         le: le_size(is_extended, n, written),
@@ -128,29 +102,21 @@ impl CommandBuilder {
     pub fn lowered(self) -> CommandBuilder
         ensures { LoweredIs self result }
     {
-        let class = self.class;
-        let mode = self.mode;
-        let le = self.le;
-        let le = lowered_len(mode, le);
         CommandBuilder {
-            class,
-            instruction: self.instruction,
-            p1: self.p1,
-            p2: self.p2,
-            le,
-            mode,
+            le: lowered_len(self.mode, self.le),
+            ..self
         }
     }
 
     // The length of the command with these data: four plus the bytes of Lc, data and Le (rule 11.9); or 13.
-    pub fn required_len(self, data: &[u8]) -> Length
+    pub fn required_len(self, data: &[u8]) -> Result<usize, Refusal>
         ensures { RequiredLenIs self «data».now result }
     {
         let n = data.len();
         if 65535 < n {
-            return Length::Refused(13);
+            return Err(Refusal::DataTooLong);
         }
         let sizes = sizes(self, n);
-        Length::Bytes(4 + sizes.lc + n + sizes.le)
+        Ok(4 + sizes.lc + n + sizes.le)
     }
 }

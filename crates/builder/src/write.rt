@@ -7,15 +7,15 @@ ghost use Rattle.builder.specs.Bytes.{header, SerializeIntoIs};
 ghost use Rattle.builder.specs.Sizes.{field, laid_out, Fits};
 
 use crate::CommandBuilder;
-use crate::sizes::{Fields, Length, sizes};
+use crate::sizes::{Fields, sizes};
+use basis::Refusal;
 
 // The four header bytes.
 fn put_header(builder: CommandBuilder, to: &mut [u8])
     requires { 4 ≤ length to.old }
     ensures { to.new ≡ over (header builder) to.old }
 {
-    let class = builder.class;
-    to[0] = class.into_inner();
+    to[0] = builder.class.into_inner();
     to[1] = builder.instruction;
     to[2] = builder.p1;
     to[3] = builder.p2;
@@ -23,6 +23,7 @@ fn put_header(builder: CommandBuilder, to: &mut [u8])
 
 // A length field of no byte, one, two, or a zero byte and two, written straight into its part (rule 12.15). 256 in one
 // byte and 65,536 in two are zeros (rule 3.8).
+// Stays: the bytes are taken one by one, since no scratch array, as that of `to_be_bytes`, holds a field (rule 12.15).
 fn put_field(size: usize, n: usize, to: &mut [u8])
     requires { (size ≤ 3) × (size ≤ length to.old) }
     ensures { to.new ≡ over (field size n) to.old }
@@ -69,22 +70,22 @@ fn put_command(builder: CommandBuilder, sizes: Fields, data: &[u8], to: &mut [u8
 
 impl CommandBuilder {
     // Writes the command with these data into a buffer from a place. Bytes before it and after it stay (rule 3.9).
-    pub fn serialize_into(self, data: &[u8], buffer: &mut [u8], at: usize) -> Length
+    pub fn serialize_into(self, data: &[u8], buffer: &mut [u8], at: usize) -> Result<usize, Refusal>
         ensures { SerializeIntoIs self «data».now buffer.old at result buffer.new }
     {
         let n = data.len();
         if 65535 < n {
-            return Length::Refused(13);
+            return Err(Refusal::DataTooLong);
         }
         if buffer.len() < at {
-            return Length::Refused(16);
+            return Err(Refusal::DoesNotFit);
         }
         let sizes = sizes(self, n);
         let len = 4 + sizes.lc + n + sizes.le;
         if buffer.len() - at < len {
-            return Length::Refused(16);
+            return Err(Refusal::DoesNotFit);
         }
         put_command(self, sizes, data, &mut buffer[at..]);
-        Length::Bytes(len)
+        Ok(len)
     }
 }

@@ -1,7 +1,7 @@
 -- What the exported functions write of a builder that is given by numbers. If it is made, its data are at most 65,535
 -- bytes, so no test of them after that refuses.
 use Prim.Native.Nat.{ℕ, ◌≤◌}
-use mathlib.Core.Path.{◌≡◌, refl, sym, ap, ◌∙◌, subst}
+use mathlib.Core.Path.{◌≡◌, refl, ap, ◌∙◌, subst}
 use mathlib.Core.Bool.{Bool}
 use mathlib.Core.List.{List, [], ◌∷◌}
 use borrow.Author.Tests.{le-ltb}
@@ -45,10 +45,6 @@ module _ (n : ℕ) where
   row_equal (refused k) (ok v) f h = refl
   row_equal x (refused j) f h = refl
 
--- the reply of the parser in the crate reading
-pub parse_is : (s : List ℕ) {y z : Reply CommandView} → y ≡ parse Crate s → y ≡ z → parse Crate s ≡ z
-parse_is s e f = sym e ∙ f
-
 -- what the exported functions write, from what the private ones wrote
 module _ (c i p q e m : ℕ) (d : List ℕ) where
   abbrev x : Reply CommandBuilder
@@ -75,8 +71,3 @@ module _ (c i p q e m : ℕ) (d : List ℕ) where
     equal_row s y h a =
         let f = row_equal (length d) x (parse Crate s) (λ b v. equal_to b d v (data_in s (parse Crate s))) (few c i p q e m d) in
         subst (λ z. NumbersWritten 1 z out r after) (ap equal_numbers (h ∙ ap (λ z. comparing z d s) known) ∙ f) a
-
--- a row of one number, for a reply that is that number
-pub row_as : {y : Reply (List ℕ)} (n : ℕ) {out after : List ℕ} {r : ℕ} → y ≡ ok (n ∷ []) → NumbersWritten 1 (ok (n ∷ [])) out r after
-    → NumbersWritten 1 y out r after
-row_as n {out} {after} {r} e a = subst (λ (z : Reply (List ℕ)). NumbersWritten 1 z out r after) (sym e) a

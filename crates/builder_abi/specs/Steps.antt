@@ -14,7 +14,11 @@ use Rattle.builder_abi.specs.Numbers.{with_both}
 abbrev pub forcing : Reply CommandBuilder → Reply CommandBuilder
 forcing x = then x (λ b. forced_of b b.mode)
 
--- the length of its command with the data d, as a row of one number
+-- the length of its command with the data d
+abbrev pub required : Reply CommandBuilder → List ℕ → Reply ℕ
+required x d = then x (λ b. unless_long (length d) (ok (required_len b (length d))))
+
+-- the same as a row of one number
 abbrev pub requiring : Reply CommandBuilder → List ℕ → Reply (List ℕ)
 requiring x d = then x (λ b. then (unless_long (length d) (ok (required_len b (length d)))) (λ n. ok (n ∷ [])))
 

@@ -1,48 +1,46 @@
 // What a host program calls for a builder: the length of its command, the same with extended lengths forced, its
 // comparison with a command, and its command written (rule 12.6). Each function replies 0, or the number of a refusal,
 // and writes one number into the slice `out` if it replies 0.
+// Stays: a builder goes in as numbers, one by one, and what is replied goes out as numbers: the C interface.
 #![tactic(auto)]
 
 ghost use Rattle.std.specs.Prelude.{◌≡◌};
-ghost use Rattle.builder.specs.Builder.{as_reply};
-ghost use Rattle.builder_compare.specs.Compare.{as_reply as equalAsReply};
+ghost use Rattle.basis.specs.Refusal.{refusal_number, as_reply};
 ghost use Rattle.abi.specs.Answers.{NumbersWritten};
 ghost use Rattle.builder_abi.specs.Numbers.{required_len_reply, force_extended_reply, smaller, builder_eq_reply};
-ghost use Rattle.builder_abi.specs.Steps.{forcing, requiring, comparing, equal_numbers};
+ghost use Rattle.builder_abi.specs.Steps.{forcing, required, requiring, comparing, equal_numbers};
 
 mod write;
 
-use abi::{builder_by_numbers, refusal_status, write_numbers};
-use builder::{Built, Length};
-use builder_compare::Comparison;
+use abi::{builder_by_numbers, flag, refusal_status, write_numbers};
+use basis::Refusal;
+use builder::CommandBuilder;
 use byte_slices::part;
 use class::Reading;
-use command::{CommandView, Parsed};
+use command::CommandView;
 pub use write::gorvisclen_serialize_into;
 
 // The same builder with extended lengths forced, or the refusal (rule 3.2).
-fn forced(built: Built) -> Built
+fn forced(built: Result<CommandBuilder, Refusal>) -> Result<CommandBuilder, Refusal>
     ensures { as_reply result ≡ forcing (as_reply built) }
 {
-    match built {
-        Built::Refused(k) => Built::Refused(k),
-        Built::Builder(builder) => builder.force_extended(),
-    }
+    built?.force_extended()
 }
 
-// Writes the length of its command with these data.
-fn write_required_len(built: Built, data: &[u8], out: &mut [u64]) -> u8
+// The length of its command with these data, or the refusal.
+fn required_len(built: Result<CommandBuilder, Refusal>, data: &[u8]) -> Result<usize, Refusal>
+    ensures { as_reply result ≡ required (as_reply built) «data».now }
+{
+    built?.required_len(data)
+}
+
+// Writes that length.
+fn write_required_len(built: Result<CommandBuilder, Refusal>, data: &[u8], out: &mut [u64]) -> u8
     ensures { NumbersWritten 1 (requiring (as_reply built) «data».now) out.old result out.new }
 {
-    match built {
-        Built::Refused(k) => refusal_status(k, out.len(), 1),
-        Built::Builder(builder) => match builder.required_len(data) {
-            Length::Refused(k) => refusal_status(k, out.len(), 1),
-            Length::Bytes(n) => {
-                let row = [n as u64];
-                write_numbers(&row, out)
-            }
-        },
+    match required_len(built, data) {
+        Err(refusal) => refusal_status(refusal.number(), out.len(), 1),
+        Ok(n) => write_numbers(&[n as u64], out),
     }
 }
 
@@ -85,53 +83,37 @@ pub extern "C" fn gorvisclen_force_extended(
     write_required_len(extended, data, out)
 }
 
-// The number j of a refusal to read, or that of a refusal to build if it is smaller (rule 1.22).
-fn smaller(built: Built, j: u8) -> u8
-    ensures { result ≡ smaller (as_reply built) j }
+// A refusal to read, or that to build if its number is smaller (rule 1.22).
+fn smaller(built: Result<CommandBuilder, Refusal>, unread: Refusal) -> Refusal
+    ensures { refusal_number result ≡ smaller (as_reply built) (refusal_number unread) }
 {
     match built {
-        Built::Builder(_) => j,
-        Built::Refused(k) => {
-            if k < j {
-                return k;
-            }
-            j
-        }
+        Err(unbuilt) if unbuilt.number() < unread.number() => unbuilt,
+        _ => unread,
     }
 }
 
 // A builder with these data compared with a command.
-fn compared(built: Built, data: &[u8], apdu: &[u8]) -> Comparison
-    ensures { equalAsReply result ≡ comparing (as_reply built) «data».now apdu.now }
+fn compared(
+    built: Result<CommandBuilder, Refusal>,
+    data: &[u8],
+    apdu: &[u8],
+) -> Result<bool, Refusal>
+    ensures { as_reply result ≡ comparing (as_reply built) «data».now apdu.now }
 {
     match CommandView::try_from(Reading::Crate, apdu) {
-        Parsed::Refused(j) => Comparison::Refused(smaller(built, j)),
-        Parsed::View(view) => match built {
-            Built::Refused(k) => Comparison::Refused(k),
-            Built::Builder(builder) => builder_compare::eq(
-                builder,
-                data,
-                view,
-                part(apdu, view.at, view.len),
-            ),
-        },
+        Err(unread) => Err(smaller(built, unread)),
+        Ok(view) => builder_compare::eq(built?, data, view, part(apdu, view.at, view.len)),
     }
 }
 
 // Writes 1 if they are equal, else 0.
-fn write_equal(answer: Comparison, out: &mut [u64]) -> u8
-    ensures { NumbersWritten 1 (equal_numbers (equalAsReply answer)) out.old result out.new }
+fn write_equal(answer: Result<bool, Refusal>, out: &mut [u64]) -> u8
+    ensures { NumbersWritten 1 (equal_numbers (as_reply answer)) out.old result out.new }
 {
     match answer {
-        Comparison::Refused(k) => refusal_status(k, out.len(), 1),
-        Comparison::Equal => {
-            let row = [1];
-            write_numbers(&row, out)
-        }
-        Comparison::Different => {
-            let row = [0];
-            write_numbers(&row, out)
-        }
+        Err(refusal) => refusal_status(refusal.number(), out.len(), 1),
+        Ok(equal) => write_numbers(&[flag(equal)], out),
     }
 }
 
@@ -152,6 +134,5 @@ pub extern "C" fn gorvisclen_builder_eq(
         result out.new }
 {
     let built = builder_by_numbers(class, instruction, p1, p2, le, mode, data);
-    let answer = compared(built, data, apdu);
-    write_equal(answer, out)
+    write_equal(compared(built, data, apdu), out)
 }

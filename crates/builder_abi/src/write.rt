@@ -5,7 +5,8 @@ ghost use Rattle.abi.specs.Serialized.{Serialized};
 ghost use Rattle.builder_abi.specs.Numbers.{CommandWritten};
 
 use abi::{builder_by_numbers, refusal_status};
-use builder::{Built, CommandBuilder, Length};
+use basis::Refusal;
+use builder::CommandBuilder;
 
 // Writes a command into the buffer, and its length into a slice that has a place for it.
 fn write(builder: CommandBuilder, data: &[u8], buffer: &mut [u8], at: usize, out: &mut [u64]) -> u8
@@ -14,8 +15,8 @@ fn write(builder: CommandBuilder, data: &[u8], buffer: &mut [u8], at: usize, out
         out.new }
 {
     match builder.serialize_into(data, buffer, at) {
-        Length::Refused(k) => k,
-        Length::Bytes(n) => {
+        Err(refusal) => refusal.number(),
+        Ok(n) => {
             out[0] = n as u64;
             0
         }
@@ -40,10 +41,10 @@ pub extern "C" fn gorvisclen_serialize_into(
         buffer.new out.new }
 {
     match builder_by_numbers(class, instruction, p1, p2, le, mode, data) {
-        Built::Refused(k) => refusal_status(k, out.len(), 1),
-        Built::Builder(builder) => {
+        Err(refusal) => refusal_status(refusal.number(), out.len(), 1),
+        Ok(builder) => {
             if out.len() < 1 {
-                return 16;
+                return Refusal::DoesNotFit.number();
             }
             write(builder, data, buffer, at, out)
         }

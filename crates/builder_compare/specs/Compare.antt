@@ -1,14 +1,14 @@
 -- A builder compared with a command that was read. Rules 3.10 and 3.11.
-use Rattle.std.specs.Prelude.{ℕ, ◌≡◌, Bool, true, false, cond, List, eqb, length}
-use Rattle.basis.specs.Reply.{Reply, ok, refused}
+use Rattle.std.specs.Prelude.{ℕ, ◌≡◌, Result, Bool, false, cond, List, eqb, length}
+use Rattle.basis.specs.Reply.{ok}
+use Rattle.basis.specs.Refusal.{as_reply}
+use Rattle.basis.specs.declared.refusal.Refusal.{Refusal}
 use Rattle.byte_slices.specs.Slices.{same}
 use Rattle.command.specs.declared.CommandView.{CommandView}
 use Rattle.builder.specs.Builder.{unless_long}
 use Rattle.builder.specs.declared.ExpectedLen.{ExpectedLen}
 use Rattle.builder.specs.declared.ExpectedLen.TheVariants.{Ne, Max}
 use Rattle.builder.specs.declared.CommandBuilder.{CommandBuilder}
-use Rattle.builder_compare.specs.declared.Comparison.{Comparison}
-use Rattle.builder_compare.specs.declared.Comparison.TheVariants.{Equal, Different, Refused}
 
 -- the expected length as it is compared: not lowered, and Max as 65,535 (rule 3.11)
 abbrev pub le_compared : ExpectedLen → ℕ
@@ -26,12 +26,6 @@ same_header b v =
 unfoldable pub equal_to : CommandBuilder → List ℕ → CommandView → List ℕ → Bool
 equal_to b d v f = cond (same_header b v) (cond (eqb (le_compared b.le) v.le) (same d f) false) false
 
--- an answer as a reply
-abbrev pub as_reply : Comparison → Reply Bool
-as_reply Equal = ok true
-as_reply Different = ok false
-as_reply (Refused k) = refused k
-
 -- the promise of `eq`: 13 for data above 65,535 bytes, else whether they are equal
-abbrev pub EqIs : CommandBuilder → List ℕ → CommandView → List ℕ → Comparison → Type 0
+abbrev pub EqIs : CommandBuilder → List ℕ → CommandView → List ℕ → Result Bool Refusal → Type 0
 EqIs b d v f x = as_reply x ≡ unless_long (length d) (ok (equal_to b d v f))

@@ -7,14 +7,16 @@ use borrow.Author.Tests.{ltb-false}
 use lib.Dec.{ltb}
 use lib.ListN.{length, take, drop}
 use lib.Seq.{take-append_seam, drop_at, length-take-le}
+use Rattle.std.specs.Prelude.{Result}
 use Rattle.basis.specs.Reply.{ok}
+use Rattle.basis.specs.Refusal.{as_reply}
+use Rattle.basis.specs.declared.refusal.Refusal.{Refusal}
 use Rattle.basis.specs.Over.{over_at}
 use Rattle.basis.proofs.Reply.{All, all_is, all_cond}
 use Rattle.class.specs.declared.Reading.{Reading}
 use Rattle.command.proofs.Cases.{ReadAs}
-use Rattle.builder.specs.Bytes.{command_of, serialize_of, as_reply, SerializeIntoIs}
+use Rattle.builder.specs.Bytes.{command_of, serialize_of, SerializeIntoIs}
 use Rattle.builder.specs.declared.CommandBuilder.{CommandBuilder}
-use Rattle.builder.specs.declared.sizes.Length.{Length}
 use Rattle.builder_laws.specs.Read.{Expected, view_for}
 use Rattle.builder_laws.proofs.Read.{built_read}
 
@@ -30,7 +32,7 @@ fitted b d m at =
     all_cond (Fits b d m at) (ltb m (at + length (command_of b d))) _ _ (λ _. tt) (λ g.
     (ltb-false 65535 (length d) f, ltb-false m (at + length (command_of b d)) g, refl)))
 
-module _ (b : CommandBuilder) (d before : List ℕ) (at n : ℕ) (x : Length) (after : List ℕ)
+module _ (b : CommandBuilder) (d before : List ℕ) (at n : ℕ) (x : Result ℕ Refusal) (after : List ℕ)
     (w : SerializeIntoIs b d before at x after) (s : as_reply x ≡ ok n) where
   fits : Fits b d (length before) at n
   fits =

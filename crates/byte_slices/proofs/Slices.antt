@@ -1,12 +1,12 @@
--- Laws of lists that hold the same bytes: they are equal, and a loop finds that out from the front on.
-use Prim.Native.Nat.{ℕ, zero, suc, ◌+◌, ◌<◌}
+-- Laws of lists that hold the same bytes: they are equal, and `==` on slices finds that out.
+use Prim.Native.Nat.{ℕ}
 use mathlib.Core.Path.{◌≡◌, refl, ap}
-use mathlib.Core.Bool.{Bool, true, false, cond}
+use mathlib.Core.Bool.{Bool, true, false, cond, ◌&&◌}
 use mathlib.Core.List.{List, [], ◌∷◌}
-use native.Mathlib.Omega.{arith}
 use borrow.Author.Tests.{eq-eqb, eqb-true}
 use lib.Dec.{eqb}
-use lib.ListN.{length, take, get_or}
+use Rattle.std.specs.Cmp.Lexicographic.{pointwise}
+use lib.ListN.{length}
 use Rattle.basis.proofs.Truth.{same_truth, both_true}
 use Rattle.byte_slices.specs.Slices.{same}
 
@@ -30,19 +30,14 @@ same_self (x ∷ s) = rw (eq-eqb x x refl, same_self s)
 pub other_length : (s t : List ℕ) → (length s ≡ length t → ⊥) → false ≡ same s t
 other_length s t h = same_truth false (same s t) (λ e. cc) (λ e. absurd (h (ap (λ (l : List ℕ). length l) (same_equal s t e))))
 
--- two tests may be made in either order
-tests_exchanged : (a b c : Bool) → cond a (cond b c false) false ≡ cond b (cond a c false) false
-tests_exchanged true b c = refl
-tests_exchanged false true c = refl
-tests_exchanged false false c = refl
-
--- one more byte on both sides
-pub same_next : (s t : List ℕ) (i : ℕ) → i < length s → i < length t
-    → same (take (i + 1) s) (take (i + 1) t) ≡ cond (eqb (get_or s i 0) (get_or t i 0)) (same (take i s) (take i t)) false
+-- `==` on slices goes byte by byte
+pub same_pointwise : (s t : List ℕ) → pointwise eqb s t ≡ same s t
 unfolding same
-same_next [] t i h g = absurd (omega arith)
-same_next (x ∷ s) [] i h g = absurd (omega arith)
-same_next (x ∷ s) (y ∷ t) zero h g = refl
-same_next (x ∷ s) (y ∷ t) (suc i) h g =
-    let e : suc i + 1 ≡ suc (i + 1) = omega arith in
-    rw (e, same_next s t i (omega arith) (omega arith)) (tests_exchanged (eqb x y) (eqb (get_or s i 0) (get_or t i 0)) (same (take i s) (take i t)))
+same_pointwise [] [] = refl
+same_pointwise [] (y ∷ t) = refl
+same_pointwise (x ∷ s) [] = refl
+same_pointwise (x ∷ s) (y ∷ t) = by_head (eqb x y) _ _ (same_pointwise s t)
+  where
+    by_head : (a b c : Bool) → b ≡ c → (a && b) ≡ cond a c false
+    by_head true b c e = e
+    by_head false b c e = refl

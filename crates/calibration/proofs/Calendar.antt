@@ -9,7 +9,10 @@ use native.Mathlib.Omega.{arith}
 use lib.Dec.{ltb, leb, eqb}
 use lib.ListN.{get_or, get_or-eq_default}
 use borrow.Author.Tests.{leb-true, le-leb, lt-ltb, le-ltb, eq-eqb, ne_eqb}
-use Rattle.calibration.specs.Date.{is_leap, month_days, days_in, is_real, sum_to, year_days, day_number}
+use Rattle.std.specs.Prelude.{Option, Some}
+use Rattle.std.proofs.Common.{Ordering, Less, Equal, Greater}
+use Rattle.std.specs.Ordering.{is_some_and, is_lt, nat_cmp, partial_ordering_then}
+use Rattle.calibration.specs.Date.{is_earlier, precedes, is_leap, month_days, days_in, is_real, sum_to, year_days, day_number}
 use Rattle.calibration.specs.declared.date.Date.{Date}
 
 -- from 2000 to 2099 every fourth year is a leap year
@@ -230,3 +233,50 @@ module _ (d e : Date) (r : Real d) (s : Real e) where
     where
       same_day : d.day ≡ e.day → day_number d ≡ day_number e
       same_day k = λ i. day_number (record { year = y i; month = m i; day = k i })
+
+-- numbers that differ decide the comparison
+cmp_other : (x y : ℕ) (o : Option Ordering) → (x ≡ y → ⊥) → is_some_and is_lt (partial_ordering_then (Some (nat_cmp x y)) o) ≡ ltb x y
+cmp_other x y o n =
+    elim (dec_le y x) [
+      | yes h ↦ rw (le-ltb x y h, ne_eqb x y n)
+      | no h ↦ rw (lt-ltb x y (omega arith))
+    ]
+
+cmp_same : (x y : ℕ) (o : Option Ordering) → x ≡ y → partial_ordering_then (Some (nat_cmp x y)) o ≡ o
+cmp_same x y o e = rw (le-ltb x y (omega arith), eq-eqb x y e)
+
+-- the first number decides, or the others do
+then_assoc : (x y : ℕ) (o p : Option Ordering)
+    → partial_ordering_then (partial_ordering_then (Some (nat_cmp x y)) o) p ≡ partial_ordering_then (Some (nat_cmp x y)) (partial_ordering_then o p)
+then_assoc x y o p = by_ordering (nat_cmp x y)
+  where
+    by_ordering : (k : Ordering) → partial_ordering_then (partial_ordering_then (Some k) o) p ≡ partial_ordering_then (Some k) (partial_ordering_then o p)
+    by_ordering Less = refl
+    by_ordering Equal = refl
+    by_ordering Greater = refl
+
+cmp_last : (x y : ℕ) → is_some_and is_lt (Some (nat_cmp x y)) ≡ ltb x y
+cmp_last x y =
+    elim (ℕ_discrete x y) [
+      | yes e ↦ rw (le-ltb x y (omega arith), eq-eqb x y e)
+      | no n ↦ elim (dec_le y x) [
+        | yes h ↦ rw (le-ltb x y h, ne_eqb x y n)
+        | no h ↦ rw (lt-ltb x y (omega arith))
+      ]
+    ]
+
+-- so `<` on dates says which is earlier (rule 19.6)
+pub ordered : (d e : Date) → is_real d ≡ true → is_real e ≡ true → precedes d e ≡ is_earlier d e
+unfolding is_earlier
+ordered d e p q =
+    let r = real_says d p in
+    let s = real_says e q in
+    elim (ℕ_discrete d.year e.year) [
+      | no n ↦
+          ap (λ (o : Option Ordering). is_some_and is_lt o) (then_assoc d.year e.year _ _) ∙ cmp_other d.year e.year _ n ∙ by_year d e r s n
+      | yes y ↦
+          elim (ℕ_discrete d.month e.month) [
+            | no n ↦ rw (cmp_same d.year e.year _ y) (cmp_other d.month e.month _ n ∙ by_month d e r s y n)
+            | yes m ↦ rw (cmp_same d.year e.year _ y, cmp_same d.month e.month _ m) (cmp_last d.day e.day ∙ by_day d e r s y m)
+          ]
+    ]

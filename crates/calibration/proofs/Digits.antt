@@ -1,7 +1,8 @@
 -- Laws of packed decimal: digits and numbers correspond one to one (rules 19.3 and 19.10).
-use Prim.Native.Nat.{ℕ, ◌+◌, ◌*◌, ◌/◌, ◌%◌, ◌≤◌, ◌<◌}
+use mathlib.Core.Logic.{◌⊎◌, inl, inr}
+use Prim.Native.Nat.{ℕ, zero, suc, ◌+◌, ◌*◌, ◌/◌, ◌%◌, ◌≤◌, ◌<◌}
 use mathlib.Core.Path.{◌≡◌, refl, sym, ap, ◌∙◌}
-use mathlib.Core.Bool.{true, false, ◌&&◌, and-eq-true_iff}
+use mathlib.Core.Bool.{Bool, true, false, ◌&&◌, and-eq-true_iff}
 use mathlib.Core.List.{List, [], ◌∷◌}
 use native.Mathlib.Omega.{arith}
 use lib.Dec.{leb}
@@ -9,6 +10,9 @@ use lib.ListN.{length, get_or}
 use borrow.Author.Tests.{leb-true, le-leb}
 use Rattle.basis.specs.Reply.{Reply, ok, refused}
 use Rattle.basis.specs.Number.{number}
+use Rattle.std.specs.Int.{w32, from_be_bytes}
+use Rattle.std.specs.Bool.{MatchBool}
+use Rattle.std.specs.List.{AllWithin, HoldsAt}
 use Rattle.basis.proofs.Truth.{on_cond}
 use Rattle.calibration.specs.Date.{is_real, is_decimal, two_digits, are_packed, date_in, date_of, packed, date_bytes}
 use Rattle.calibration.specs.declared.date.Date.{Date}
@@ -86,11 +90,28 @@ four (x ∷ y ∷ z ∷ []) h = absurd (omega arith)
 four (x ∷ y ∷ z ∷ w ∷ []) h = refl
 four (x ∷ y ∷ z ∷ w ∷ v ∷ b) h = absurd (omega arith)
 
--- the number in four bytes
-pub number_of_four : (b : List ℕ) → length b ≡ 4
-    → number b ≡ (get_or b 0 0 * 256 + get_or b 1 0) * 65536 + (get_or b 2 0 * 256 + get_or b 3 0)
-unfolding number
-number_of_four b h = ap number (four b h) ∙ omega arith
+-- four tests of which one fails
+no_and : (x y : Bool) → (x ≡ false) ⊎ (y ≡ false) → (x && y) ≡ false
+no_and true y (inl e) = cc
+no_and true y (inr e) = e
+no_and false y e = refl
+
+none_of_four : (p : ℕ → Bool) (k : ℕ) → k < 4 → p k ≡ false → false ≡ (p 0 && p 1 && p 2 && p 3)
+none_of_four p zero h e = sym (no_and _ (p 3) (inl (no_and _ (p 2) (inl (no_and (p 0) (p 1) (inl e))))))
+none_of_four p (suc zero) h e = sym (no_and _ (p 3) (inl (no_and _ (p 2) (inl (no_and (p 0) (p 1) (inr e))))))
+none_of_four p (suc (suc zero)) h e = sym (no_and _ (p 3) (inl (no_and _ (p 2) (inr e))))
+none_of_four p (suc (suc (suc zero))) h e = sym (no_and _ (p 3) (inr e))
+none_of_four p (suc (suc (suc (suc k)))) h e = absurd (omega arith)
+
+-- whether all four bytes are decimal, as a search for one that is not finds it
+pub packed_by : (b : List ℕ) → length b ≡ 4 → (r : Bool)
+    → MatchBool r (AllWithin (λ x. is_decimal x ≡ true) b 0 (length b)) ((k : ℕ) × (k < length b) × HoldsAt (λ x. is_decimal x ≡ false) b k)
+    → r ≡ are_packed b
+unfolding are_packed
+packed_by b size true h =
+    rw (h 0 0 (omega arith) (omega arith), h 1 0 (omega arith) (omega arith), h 2 0 (omega arith) (omega arith), h 3 0 (omega arith) (omega arith))
+packed_by b size false h =
+    none_of_four (λ k. is_decimal (get_or b k 0)) h.0 (omega (arith, h.1)) (h.2 0)
 
 -- four bytes of packed decimal are the bytes of the date that they say
 pub bytes_back : (b : List ℕ) → length b ≡ 4 → are_packed b ≡ true → date_bytes (date_in b) ≡ b
@@ -114,3 +135,19 @@ unfolding date_of
 by_date P b h g =
     on_cond P (are_packed b && is_real (date_in b)) (ok (date_in b)) (refused 27)
     (λ e. let t = (and-eq-true_iff (are_packed b) (is_real (date_in b))).0 e in h t.0 t.1) g
+
+-- the number in four bytes
+pub number_of_four : (b : List ℕ) → length b ≡ 4
+    → number b ≡ (get_or b 0 0 * 256 + get_or b 1 0) * 65536 + (get_or b 2 0 * 256 + get_or b 3 0)
+unfolding number
+number_of_four b h = ap number (four b h) ∙ omega arith
+
+-- the number that four bytes say with the highest first
+pub capacity_said : (b : List ℕ) → length b ≡ 4 → from_be_bytes w32 b ≡ number b
+unfolding number
+capacity_said [] h = absurd (omega arith)
+capacity_said (x ∷ []) h = absurd (omega arith)
+capacity_said (x ∷ y ∷ []) h = absurd (omega arith)
+capacity_said (x ∷ y ∷ z ∷ []) h = absurd (omega arith)
+capacity_said (x ∷ y ∷ z ∷ w ∷ []) h = omega arith
+capacity_said (x ∷ y ∷ z ∷ w ∷ v ∷ b) h = absurd (omega arith)

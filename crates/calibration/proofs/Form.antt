@@ -1,18 +1,19 @@
 -- Laws of the form of a record: four tags with their lengths at their places, and nothing else (rules 19.1 and 19.2).
 use Prim.Native.Nat.{ℕ, suc, ◌+◌, ◌≤◌}
 use mathlib.Core.Path.{◌≡◌, refl, sym, ap, ◌∙◌, subst}
-use mathlib.Core.Bool.{Bool, true, false, ◌&&◌, and-eq-true_iff, true≢false}
+use mathlib.Core.Bool.{Bool, true, false, ◌&&◌, and-eq-true_iff}
 use mathlib.Core.List.{List, [], ◌∷◌, ◌++◌, append-nil}
 use native.Mathlib.Nat.{add-zero}
 use native.Mathlib.Omega.{arith}
 use lib.Dec.{leb, eqb}
 use lib.ListN.{length, get_or, take, drop, length-append, length-drop, take-append-drop, drop_of_length-le}
 use lib.Seq.{length-take-le, take_all, take_at, drop-cons, drop-drop, drop_at, get_or-drop}
+use borrow.Author.Rules.{rules}
 use borrow.Author.Tests.{leb-true, le-leb, eqb-true, eq-eqb}
 use Rattle.basis.proofs.Truth.{same_truth}
 use Rattle.byte_slices.specs.Slices.{same}
 use Rattle.byte_slices.proofs.Slices.{same_equal, same_self}
-use Rattle.calibration.specs.Profile.{object, template, is_serial_len, serial_len, serial_of, due_place, due_of, capacity_of, is_profile}
+use Rattle.calibration.specs.Profile.{head_test, heads_test, object, template, is_serial_len, serial_len, serial_of, due_place, due_of, capacity_of, is_profile}
 
 -- a tag and a length of one byte each stand at a place
 abbrev pub Head : List ℕ → ℕ → ℕ → ℕ → Type 0
@@ -25,11 +26,8 @@ head_true a b t l e = let h = (and-eq-true_iff (eqb a t) (eqb b l)).0 e in (eqb-
 pub true_head : (a b t l : ℕ) → a ≡ t → b ≡ l → (eqb a t && eqb b l) ≡ true
 true_head a b t l p q = rw (eq-eqb a t p, eq-eqb b l q)
 
--- what the code's test of a head says, if it fails and if it does not
+-- what the code's test of a head says, if it does not fail
 module _ (s : List ℕ) (at t l : ℕ) (r : Bool) (e : r ≡ (eqb (get_or s at 0) t && eqb (get_or s (at + 1) 0) l)) where
-  pub no_head : r ≡ false → Head s at t l → ⊥
-  no_head n h = true≢false (sym (e ∙ true_head (get_or s at 0) (get_or s (at + 1) 0) t l h.0 h.1) ∙ n)
-
   pub is_head : r ≡ true → Head s at t l
   is_head y = head_true (get_or s at 0) (get_or s (at + 1) 0) t l (sym e ∙ y)
 
@@ -194,3 +192,27 @@ other_head s h = same_truth false (is_profile s) (λ e. cc) (λ e. absurd (h (pr
 
 pub all_heads : (s : List ℕ) → 17 ≤ length s → length s ≤ 32 → Heads s (serial_len s) → is_profile s ≡ true
 all_heads s lo hi h = formed_profile s lo hi (heads_template s lo hi h)
+
+-- these tests say in a record of 17 to 32 bytes whether it is of this form
+pub by_heads : (s : List ℕ) → 17 ≤ length s → length s ≤ 32 → heads_test s (serial_len s) ≡ is_profile s
+by_heads s lo hi =
+    let n = serial_len s in
+    let a = head_test s 0 0xE1 (n + 14) in
+    let b = head_test s 2 0xC1 n in
+    let c = head_test s (n + 4) 0xC2 4 in
+    let d = head_test s (n + 10) 0xC3 4 in
+    same_truth (heads_test s n) (is_profile s)
+    (λ e.
+    let x = (and-eq-true_iff (a && b && c) d).0 e in
+    let y = (and-eq-true_iff (a && b) c).0 x.0 in
+    let z = (and-eq-true_iff a b).0 y.0 in
+    all_heads s lo hi
+    (record {
+      outer = head_true (get_or s 0 0) (get_or s 1 0) 0xE1 (n + 14) z.0;
+      serial = head_true (get_or s 2 0) (get_or s 3 0) 0xC1 n z.1;
+      due = head_true (get_or s (n + 4) 0) (get_or s (n + 4 + 1) 0) 0xC2 4 y.1;
+      capacity = head_true (get_or s (n + 10) 0) (get_or s (n + 10 + 1) 0) 0xC3 4 x.1;
+    }))
+    (λ e.
+    let h = (profile_formed s e).heads in
+    rw (h.outer.0, h.outer.1, h.serial.0, h.serial.1, h.due.0, h.due.1, h.capacity.0, h.capacity.1) (search rules))

@@ -1,16 +1,14 @@
 -- What the reading of a record says: the ways that it can go, and what is so of a record that was read (rule 19.5).
-use Prim.Native.Nat.{ℕ, ◌+◌, ◌-◌, ◌≤◌}
+use Prim.Native.Nat.{ℕ}
 use mathlib.Core.Path.{◌≡◌, refl, sym, ap, ◌∙◌}
 use mathlib.Core.Bool.{true, false, ◌&&◌}
 use mathlib.Core.List.{List}
-use native.Mathlib.Omega.{arith}
-use lib.ListN.{length, take, drop}
 use Rattle.basis.specs.Reply.{Reply, ok, refused, then}
 use Rattle.basis.specs.Number.{number}
 use Rattle.basis.proofs.Reply.{refused_not_ok}
 use Rattle.basis.proofs.Truth.{on_cond}
 use Rattle.calibration.specs.Date.{is_real, are_packed, date_in, date_of}
-use Rattle.calibration.specs.Profile.{Fields, fields, serial_len, serial_of, due_place, due_of, capacity_of, is_profile, fields_of, profile_of}
+use Rattle.calibration.specs.Profile.{Fields, fields, serial_len, serial_of, due_of, capacity_of, is_profile, fields_of, profile_of}
 use Rattle.calibration.specs.declared.date.Date.{Date}
 use Rattle.calibration.specs.declared.profile.Profile.{Profile}
 use Rattle.calibration.proofs.Form.{Formed, profile_formed, serial_size}
@@ -105,15 +103,3 @@ refusal_told s k e =
     (λ form digits real g. absurd (refused_not_ok k _ (sym g)))
     (λ form no g. let e : ◌≡◌ {A = ℕ} 27 k = cc in ap (λ (n : ℕ). refused n) e)
     (λ no g. let e : ◌≡◌ {A = ℕ} 26 k = cc in ap (λ (n : ℕ). refused n) e) e
-
--- the four bytes that are lent to the reading of the date, and those of the capacity
-module _ (s : List ℕ) (at : ℕ) (h : at ≡ due_place s) where
-  pub due_part : take (at + 4 - at) (drop at s) ≡ due_of s
-  due_part =
-      let n : at + 4 - at ≡ 4 = omega arith in
-      rw (n, h)
-
-  pub capacity_part : 17 ≤ length s → take (length s - (at + 6)) (drop (at + 6) s) ≡ capacity_of s
-  capacity_part lo =
-      let n : length s - (at + 6) ≡ 4 = omega arith in
-      rw (n, h)

@@ -6,6 +6,7 @@ use mathlib.Core.List.{List, [], ◌∷◌, ◌++◌, append_assoc}
 use native.Mathlib.Omega.{arith}
 use lib.ListN.{length}
 use borrow.Author.Tests.{lt-ltb, le-ltb}
+use Rattle.std.specs.Int.{w32, to_be_bytes}
 use Rattle.basis.specs.Number.{be}
 use Rattle.basis.specs.Over.{over, over_at}
 use Rattle.basis.proofs.Number.{length_be}
@@ -13,7 +14,8 @@ use Rattle.basis.proofs.Truth.{same_truth}
 use Rattle.calibration.specs.Date.{is_real, date_bytes}
 use Rattle.calibration.specs.Profile.{Fields, object, template, is_serial_len, record_of}
 use Rattle.calibration.specs.Put.{put_of, PutProfileIs}
-use Rattle.calibration.specs.declared.put.PutProfile.TheVariants.{Written, Refused}
+use Rattle.basis.specs.declared.refusal.Refusal.TheVariants as refusal
+use Rattle.std.specs.Prelude.{Ok, Err}
 use Rattle.calibration.proofs.Form.{inside_size, template_size, serial_len_lem, len_serial}
 
 -- a number in four bytes
@@ -23,6 +25,9 @@ be_four n =
     let a : n / 256 / 256 / 256 ≡ n / 16777216 = omega arith in
     let b : n / 256 / 256 ≡ n / 65536 = omega arith in
     rw (a, b)
+
+pub be_bytes : (n : ℕ) → to_be_bytes w32 n ≡ be 4 n
+be_bytes n = sym (be_four n)
 
 pub date_size : (f : Fields) → length (date_bytes f.due) ≡ 4
 unfolding date_bytes
@@ -50,7 +55,7 @@ value_known t b v l after e h = h ∙ ap (λ (x : List ℕ). over (object t x) l
 
 -- how the code may answer: 26, then 27, then 16, then that it is written
 module _ (f : Fields) (b : List ℕ) (at : ℕ) where
-  pub no_serial : (1 ≤ length f.serial → length f.serial ≤ 16 → ⊥) → PutProfileIs f b at (Refused 26) b
+  pub no_serial : (1 ≤ length f.serial → length f.serial ≤ 16 → ⊥) → PutProfileIs f b at (Err refusal.NotAProfile) b
   unfolding put_of
   no_serial h =
       let n = length f.serial in
@@ -61,19 +66,19 @@ module _ (f : Fields) (b : List ℕ) (at : ℕ) where
     is_serial : is_serial_len (length f.serial) ≡ true
     is_serial = serial_len_lem (length f.serial) lo hi
 
-    pub no_date : is_real f.due ≡ false → PutProfileIs f b at (Refused 27) b
+    pub no_date : is_real f.due ≡ false → PutProfileIs f b at (Err refusal.NoSuchDate) b
     unfolding put_of
     no_date e = record { reply = rw (is_serial, e); buffer = rw (is_serial, e) }
 
     module _ (real : is_real f.due ≡ true) where
-      pub no_room : length b < at + (length f.serial + 16) → PutProfileIs f b at (Refused 16) b
+      pub no_room : length b < at + (length f.serial + 16) → PutProfileIs f b at (Err refusal.DoesNotFit) b
       unfolding put_of
       no_room h =
           let m = lt-ltb (length b) (at + (length f.serial + 16)) h in
           record { reply = rw (is_serial, real, record_size f, m); buffer = rw (is_serial, real, record_size f, m) }
 
       pub written : (after : List ℕ) → at + (length f.serial + 16) ≤ length b → after ≡ over_at at (record_of f) b
-          → PutProfileIs f b at (Written (length f.serial + 16)) after
+          → PutProfileIs f b at (Ok (length f.serial + 16)) after
       unfolding put_of
       written after h e =
           let m = le-ltb (length b) (at + (length f.serial + 16)) h in

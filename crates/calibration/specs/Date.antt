@@ -1,10 +1,9 @@
 -- Dates: real ones of the Gregorian calendar in the years 2000 to 2099 (rule 19.4), their bytes in packed decimal (rule
 -- 19.3), and the number of a day, by which dates are compared (rule 19.6).
-use Rattle.std.specs.Prelude.{ℕ, zero, suc, ◌+◌, ◌-◌, ◌*◌, ◌/◌, ◌%◌, Bool, cond, ◌&&◌, List, [], ◌∷◌, ltb, leb, eqb, get_or}
+use Rattle.std.specs.Prelude.{ℕ, zero, suc, ◌+◌, ◌-◌, ◌*◌, ◌/◌, ◌%◌, Bool, Option, Some, None, cond, ◌&&◌, List, [], ◌∷◌, ltb, leb, eqb, get_or}
+use Rattle.std.specs.Ordering.{is_some_and, is_lt, nat_cmp, partial_ordering_then}
 use Rattle.basis.specs.Reply.{Reply, ok, refused}
 use Rattle.calibration.specs.declared.date.Date.{Date}
-use Rattle.calibration.specs.declared.date.ReadDate.{ReadDate}
-use Rattle.calibration.specs.declared.date.ReadDate.TheVariants as read
 
 -- a leap year of the Gregorian calendar: every fourth year, but of the hundreds every fourth only
 unfoldable pub is_leap : ℕ → Bool
@@ -40,6 +39,12 @@ day_number d = sum_to (d.year - 2000) (λ k. year_days (2000 + k)) + sum_to d.mo
 unfoldable pub is_earlier : Date → Date → Bool
 is_earlier d e = ltb (day_number d) (day_number e)
 
+-- the contract of the private `is_earlier`: dates are compared by year, then by month, then by day
+abbrev pub precedes : Date → Date → Bool
+precedes d e =
+    is_some_and is_lt
+    (partial_ordering_then (partial_ordering_then (Some (nat_cmp d.year e.year)) (Some (nat_cmp d.month e.month))) (Some (nat_cmp d.day e.day)))
+
 -- whether a byte has two decimal digits, and the number that they say (rule 19.3)
 unfoldable pub is_decimal : ℕ → Bool
 is_decimal b = leb (b / 16) 9 && leb (b % 16) 9
@@ -71,6 +76,6 @@ unfoldable pub date_bytes : Date → List ℕ
 date_bytes d = packed (d.year / 100) ∷ packed (d.year % 100) ∷ packed d.month ∷ packed d.day ∷ []
 
 -- an answer of the code as a reply
-abbrev pub date_reply : ReadDate → Reply Date
-date_reply (read.Date d) = ok d
-date_reply read.NoDate = refused 27
+abbrev pub date_reply : Option Date → Reply Date
+date_reply (Some d) = ok d
+date_reply None = refused 27

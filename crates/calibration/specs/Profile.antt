@@ -1,14 +1,14 @@
 -- The form of a calibration record (rules 19.1 and 19.2), the record of some fields, and the fields of a record (rule
 -- 19.5).
-use Rattle.std.specs.Prelude.{ℕ, ◌+◌, ◌-◌, ◌≡◌, Bool, cond, ◌&&◌, List, [], ◌∷◌, ◌++◌, leb, length, take, drop}
+use Rattle.std.specs.Prelude.{ℕ, ◌+◌, ◌-◌, ◌≡◌, Bool, Result, cond, ◌&&◌, List, [], ◌∷◌, ◌++◌, leb, eqb, length, get_or, take, drop}
 use Rattle.basis.specs.Reply.{Reply, ok, refused, then}
+use Rattle.basis.specs.Refusal.{as_reply}
+use Rattle.basis.specs.declared.refusal.Refusal.{Refusal}
 use Rattle.basis.specs.Number.{be, number}
 use Rattle.byte_slices.specs.Slices.{same}
 use Rattle.calibration.specs.Date.{date_of, date_bytes}
 use Rattle.calibration.specs.declared.date.Date.{Date}
 use Rattle.calibration.specs.declared.profile.Profile.{Profile}
-use Rattle.calibration.specs.declared.profile.ReadProfile.{ReadProfile}
-use Rattle.calibration.specs.declared.profile.ReadProfile.TheVariants as read
 
 -- the fields of a record: the bytes of the serial, the due date, the capacity in milligrams (rule 19.2)
 pub record Fields : Type 0 where
@@ -52,6 +52,14 @@ due_of s = take 4 (drop (due_place s) s)
 abbrev pub capacity_of : List ℕ → List ℕ
 capacity_of s = take 4 (drop (due_place s + 6) s)
 
+-- the contracts of the private `is_head` and `has_heads`: a tag and a length stand at a place, and the four of a record
+-- whose serial has n bytes
+abbrev pub head_test : List ℕ → ℕ → ℕ → ℕ → Bool
+head_test s at t l = eqb (get_or s at 0) t && eqb (get_or s (at + 1) 0) l
+
+abbrev pub heads_test : List ℕ → ℕ → Bool
+heads_test s n = head_test s 0 0xE1 (n + 14) && head_test s 2 0xC1 n && head_test s (n + 4) 0xC2 4 && head_test s (n + 10) 0xC3 4
+
 -- whether bytes are of this form: they are the template of what stands at these places (rule 19.1)
 unfoldable pub is_profile : List ℕ → Bool
 is_profile s = is_serial_len (serial_len s) && same s (template (serial_of s) (due_of s) (capacity_of s))
@@ -65,13 +73,8 @@ fields_of s =
 abbrev pub profile_of : Fields → Profile
 profile_of f = record { serial = length f.serial; due = f.due; capacity = f.capacity }
 
--- an answer of the code as a reply
-abbrev pub as_reply : ReadProfile → Reply Profile
-as_reply (read.Profile p) = ok p
-as_reply (read.Refused k) = refused k
-
 -- the promise of `read_profile`
-abbrev pub ReadProfileIs : List ℕ → ReadProfile → Type 0
+abbrev pub ReadProfileIs : List ℕ → Result Profile Refusal → Type 0
 ReadProfileIs s x = as_reply x ≡ then (fields_of s) (λ f. ok (profile_of f))
 
 -- the promise of `serial`: no bytes if the record is refused (rule 19.2)

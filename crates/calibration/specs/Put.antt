@@ -1,11 +1,11 @@
 -- A calibration record written into a buffer from a place (rules 19.9 and 1.16).
-use Rattle.std.specs.Prelude.{ℕ, ◌+◌, ◌≡◌, cond, List, ltb, length}
+use Rattle.std.specs.Prelude.{ℕ, ◌+◌, ◌≡◌, Result, cond, List, ltb, length}
 use Rattle.basis.specs.Reply.{Reply, ok, refused}
+use Rattle.basis.specs.Refusal.{as_reply}
+use Rattle.basis.specs.declared.refusal.Refusal.{Refusal}
 use Rattle.basis.specs.Over.{over_at}
 use Rattle.calibration.specs.Date.{is_real}
 use Rattle.calibration.specs.Profile.{Fields, is_serial_len, record_of}
-use Rattle.calibration.specs.declared.put.PutProfile.{PutProfile}
-use Rattle.calibration.specs.declared.put.PutProfile.TheVariants as put
 
 -- how many bytes are written from a place of a buffer of m bytes: 26, then 27, then 16 (rule 19.9)
 unfoldable pub put_of : ℕ → ℕ → Fields → Reply ℕ
@@ -19,12 +19,7 @@ abbrev pub buffer_after : Reply ℕ → ℕ → Fields → List ℕ → List ℕ
 buffer_after (ok n) at f buffer = over_at at (record_of f) buffer
 buffer_after (refused k) at f buffer = buffer
 
--- an answer of the code as a reply
-abbrev pub as_reply : PutProfile → Reply ℕ
-as_reply (put.Written n) = ok n
-as_reply (put.Refused k) = refused k
-
 -- the promise of `put_profile`
-pub record PutProfileIs (f : Fields) (lent : List ℕ) (at : ℕ) (x : PutProfile) (after : List ℕ) : Type 0 where
+pub record PutProfileIs (f : Fields) (lent : List ℕ) (at : ℕ) (x : Result ℕ Refusal) (after : List ℕ) : Type 0 where
   pub reply : as_reply x ≡ put_of at (length lent) f
   pub buffer : after ≡ buffer_after (put_of at (length lent) f) at f lent

@@ -1,6 +1,8 @@
 -- The due date shown: the card's or, if its record is refused, the desk's (rules 19.7 and 19.8).
-use Rattle.std.specs.Prelude.{ℕ, ◌≡◌, List, [], take, drop}
+use Rattle.std.specs.Prelude.{ℕ, ◌≡◌, Result, Ok, Err, List, [], take, drop}
 use Rattle.basis.specs.Reply.{Reply, ok, refused, then}
+use Rattle.basis.specs.Refusal.{refusal_number}
+use Rattle.basis.specs.declared.refusal.Refusal.{Refusal}
 use Rattle.calibration.specs.Profile.{due_place, fields_of}
 use Rattle.calibration.specs.declared.shown.DueShownFrom.{DueShownFrom}
 use Rattle.calibration.specs.declared.shown.DueShownFrom.TheVariants as from
@@ -26,13 +28,13 @@ shown_in c d (ok (desk at)) = take 4 (drop at d)
 shown_in c d (refused k) = []
 
 -- an answer of the code as a reply
-abbrev pub as_reply : DueShownFrom → Reply Whose
-as_reply (from.Card at) = ok (card at)
-as_reply (from.Desk at) = ok (desk at)
-as_reply (from.Refused k) = refused k
+abbrev pub as_reply : Result DueShownFrom Refusal → Reply Whose
+as_reply (Ok (from.Card at)) = ok (card at)
+as_reply (Ok (from.Desk at)) = ok (desk at)
+as_reply (Err k) = refused (refusal_number k)
 
 -- the promises of `due_shown_from` and `due_shown`
-abbrev pub DueShownFromIs : List ℕ → List ℕ → DueShownFrom → Type 0
+abbrev pub DueShownFromIs : List ℕ → List ℕ → Result DueShownFrom Refusal → Type 0
 DueShownFromIs c d x = as_reply x ≡ whose_of c d
 
 abbrev pub DueShownIs : List ℕ → List ℕ → List ℕ → Type 0

@@ -10,7 +10,7 @@ mod put;
 mod shown;
 
 pub use date::Date;
-pub use lapsed::{HasLapsed, has_lapsed};
-pub use profile::{Profile, ReadProfile, read_profile, serial};
-pub use put::{PutProfile, put_profile};
+pub use lapsed::has_lapsed;
+pub use profile::{Profile, read_profile, serial};
+pub use put::put_profile;
 pub use shown::{DueShownFrom, due_shown, due_shown_from};

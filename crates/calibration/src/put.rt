@@ -1,32 +1,12 @@
 // A calibration record written into a lent buffer from a place (rule 19.9).
 ghost use Rattle.std.specs.Prelude.{◌≡◌, true, [], ◌∷◌, ◌+◌, ◌≤◌, length};
-ghost use Rattle.basis.specs.Number.{be};
 ghost use Rattle.basis.specs.Over.{over, over_at};
 ghost use Rattle.calibration.specs.Date.{is_real};
 ghost use Rattle.calibration.specs.Profile.{object, fields, record_of};
 ghost use Rattle.calibration.specs.Put.{PutProfileIs};
 
 use crate::date::{Date, date_bytes, is_real};
-
-// How many bytes were written; refused if the serial has no bytes or more than 16 (26), then if there is no such date
-// (27), then if the record does not fit from the place (16).
-#[derive(Clone, Copy)]
-pub enum PutProfile {
-    Written(usize),
-    Refused(u8),
-}
-
-// The four bytes of a number, the highest first.
-fn capacity_bytes(n: u32) -> [u8; 4]
-    ensures { result ≡ be 4 n }
-{
-    [
-        (n / 0x100_0000 % 256) as u8,
-        (n / 0x1_0000 % 256) as u8,
-        (n / 0x100 % 256) as u8,
-        (n % 256) as u8,
-    ]
-}
+use basis::Refusal;
 
 // Writes the first four bytes of a record over the front of a part: the template and its length, the serial's tag and
 // its length.
@@ -34,10 +14,7 @@ fn put_front(n: usize, part: &mut [u8])
     requires { (n ≤ 16) × (4 ≤ length part.old) }
     ensures { part.new ≡ over (0xE1 ∷ (n + 14) ∷ 0xC1 ∷ n ∷ []) part.old }
 {
-    part[0] = 0xE1;
-    part[1] = (n + 14) as u8;
-    part[2] = 0xC1;
-    part[3] = n as u8;
+    part[..4].copy_from_slice(&[0xE1, (n + 14) as u8, 0xC1, n as u8]);
 }
 
 // Writes an object with a value of four bytes over the front of a part.
@@ -45,12 +22,8 @@ fn put_object(tag: u8, value: [u8; 4], part: &mut [u8])
     requires { 6 ≤ length part.old }
     ensures { part.new ≡ over (object tag value) part.old }
 {
-    part[0] = tag;
-    part[1] = 4;
-    part[2] = value[0];
-    part[3] = value[1];
-    part[4] = value[2];
-    part[5] = value[3];
+    part[..2].copy_from_slice(&[tag, 4]);
+    part[2..6].copy_from_slice(&value);
 }
 
 // Writes a record that fits: each of its fields into the part of the buffer that starts at its place.
@@ -65,36 +38,32 @@ fn write(serial: &[u8], due: Date, capacity: u32, buffer: &mut [u8], at: usize)
     put_front(n, &mut buffer[at..]);
     buffer[at_serial..at_serial + n].copy_from_slice(serial);
     put_object(0xC2, date_bytes(due), &mut buffer[at_due..]);
-    put_object(0xC3, capacity_bytes(capacity), &mut buffer[at_capacity..]);
+    put_object(0xC3, capacity.to_be_bytes(), &mut buffer[at_capacity..]);
 }
 
-// Writes the record of these fields into a buffer from a place. Bytes before it and after it stay. A refusal changes
-// nothing: 26, then 27, then 16.
+// Writes the record of these fields into a buffer from a place, and says how many bytes it has. Bytes before it and
+// after it stay. A refusal changes nothing: 26 if the serial has no bytes or more than 16, then 27 if there is no such
+// date, then 16 if the record does not fit.
+#[tactic(auto, using(crate::proofs::Written::no_serial, crate::proofs::Written::no_date, crate::proofs::Written::no_room, crate::proofs::Written::written))]
 pub fn put_profile(
     serial: &[u8],
     due: Date,
     capacity: u32,
     buffer: &mut [u8],
     at: usize,
-) -> PutProfile
+) -> Result<usize, Refusal>
     ensures { PutProfileIs (fields serial.now due capacity) buffer.old at result buffer.new }
 {
     let n = serial.len();
-    if n < 1 {
-        return PutProfile::Refused(26);
-    }
-    if 16 < n {
-        return PutProfile::Refused(26);
+    if n < 1 || 16 < n {
+        return Err(Refusal::NotAProfile);
     }
     if !is_real(due) {
-        return PutProfile::Refused(27);
+        return Err(Refusal::NoSuchDate);
     }
-    if buffer.len() < at {
-        return PutProfile::Refused(16);
-    }
-    if buffer.len() - at < n + 16 {
-        return PutProfile::Refused(16);
+    if buffer.len() < at || buffer.len() - at < n + 16 {
+        return Err(Refusal::DoesNotFit);
     }
     write(serial, due, capacity, buffer, at);
-    PutProfile::Written(n + 16)
+    Ok(n + 16)
 }

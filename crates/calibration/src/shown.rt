@@ -1,26 +1,24 @@
 // The due date shown: the card's or, if its record is refused, the desk's (rules 19.7 and 19.8).
 ghost use Rattle.calibration.specs.Shown.{DueShownFromIs, DueShownIs};
 
-use crate::profile::{ReadProfile, read_profile};
+use crate::profile::read_profile;
+use basis::Refusal;
 
-// The place of the due date in the card's record or in the desk's; if both are refused, the desk's refusal (26 or 27).
-#[derive(Clone, Copy)]
+// The place of the due date in the card's record or in the desk's.
+#[derive(Clone, Copy, PartialEq, Eq)]
 pub enum DueShownFrom {
     Card(usize),
     Desk(usize),
-    Refused(u8),
 }
 
-// Whose due date is shown, and its place in that record (rule 19.8).
-pub fn due_shown_from(card: &[u8], desk: &[u8]) -> DueShownFrom
+// Whose due date is shown, and its place in that record; if both are refused, the desk's refusal, 26 or 27 (rule 19.8).
+#[tactic(auto, using(crate::proofs::Due::none_shown))]
+pub fn due_shown_from(card: &[u8], desk: &[u8]) -> Result<DueShownFrom, Refusal>
     ensures { DueShownFromIs card.now desk.now result }
 {
     match read_profile(card) {
-        ReadProfile::Profile(profile) => DueShownFrom::Card(profile.serial + 6),
-        ReadProfile::Refused(_) => match read_profile(desk) {
-            ReadProfile::Profile(profile) => DueShownFrom::Desk(profile.serial + 6),
-            ReadProfile::Refused(k) => DueShownFrom::Refused(k),
-        },
+        Ok(profile) => Ok(DueShownFrom::Card(profile.serial + 6)),
+        Err(_) => Ok(DueShownFrom::Desk(read_profile(desk)?.serial + 6)),
     }
 }
 
@@ -30,14 +28,8 @@ pub fn due_shown<'a>(card: &'a [u8], desk: &'a [u8]) -> &'a [u8]
     ensures { DueShownIs card.now desk.now result.now }
 {
     match due_shown_from(card, desk) {
-        DueShownFrom::Card(at) => {
-            let end = at + 4;
-            &card[at..end]
-        }
-        DueShownFrom::Desk(at) => {
-            let end = at + 4;
-            &desk[at..end]
-        }
-        DueShownFrom::Refused(_) => &desk[..0],
+        Ok(DueShownFrom::Card(at)) => &card[at..at + 4],
+        Ok(DueShownFrom::Desk(at)) => &desk[at..at + 4],
+        Err(_) => &desk[..0],
     }
 }

@@ -1,5 +1,5 @@
 -- Laws of the exported functions of a calibration record.
---   refusal_answered, numbers_answered, copy_refused, copy_answered, no_row, put_refused, profile_written (Replies):
+--   no_row, put_refused, profile_written (Replies):
 --     each promise, from what was called; numbers_by, serial_of, lapsed_by, shown_of, whose_by: the reply of each
 --     export, by the answer of the crate `calibration`
 --   gorvisclen_read_profile, .. (OneReply): each promise allows one reply and one content of the lent slices

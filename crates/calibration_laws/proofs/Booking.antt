@@ -7,11 +7,11 @@ use Rattle.basis.specs.Ascii.{ascii}
 use Rattle.basis.specs.Reply.{ok}
 use Rattle.basis.specs.Number.{number}
 use Rattle.byte_slices.specs.Slices.{same}
+use Rattle.std.specs.Prelude.{Bool, Result, Ok}
+use Rattle.basis.specs.declared.refusal.Refusal.{Refusal}
 use Rattle.calibration.specs.Date.{is_leap, month_days, days_in, is_real, sum_to, year_days, day_number, is_earlier, is_decimal, two_digits, are_packed, date_in, date_of}
 use Rattle.calibration.specs.Profile.{object, template, is_serial_len, is_profile, fields_of}
 use Rattle.calibration.specs.Lapsed.{lapsed_of, HasLapsedIs}
-use Rattle.calibration.specs.declared.lapsed.HasLapsed.{HasLapsed}
-use Rattle.calibration.specs.declared.lapsed.HasLapsed.TheVariants as lapsed
 use Rattle.calibration.proofs.OneReply.{has_lapsed}
 use Rattle.calibration_laws.specs.Next.{date}
 use Rattle.calibration_laws.specs.Text.{stands_before}
@@ -44,9 +44,9 @@ unfolding due_9_october due_10_november lapsed_of is_earlier fields_of is_profil
 computed = (refl, refl)
 
 -- by the calendar the first has lapsed on 10 November, and the second has not on 9 October
-pub by_the_calendar : (x y : HasLapsed) → HasLapsedIs due_9_october (date 2026 11 10) x → HasLapsedIs due_10_november (date 2026 10 9) y
-    → (x ≡ lapsed.Says true) × (y ≡ lapsed.Says false)
+pub by_the_calendar : (x y : Result Bool Refusal) → HasLapsedIs due_9_october (date 2026 11 10) x → HasLapsedIs due_10_november (date 2026 10 9) y
+    → (x ≡ Ok true) × (y ≡ Ok false)
 by_the_calendar x y px py = (
-  has_lapsed due_9_october (date 2026 11 10) x (lapsed.Says true) px (sym computed.0),
-  has_lapsed due_10_november (date 2026 10 9) y (lapsed.Says false) py (sym computed.1),
+  has_lapsed due_9_october (date 2026 11 10) x (Ok true) px (sym computed.0),
+  has_lapsed due_10_november (date 2026 10 9) y (Ok false) py (sym computed.1),
 )

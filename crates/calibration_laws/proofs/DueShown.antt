@@ -5,12 +5,13 @@ use mathlib.Core.Path.{◌≡◌, refl, sym, ap, ◌∙◌}
 use mathlib.Core.List.{List, []}
 use lib.ListN.{take, drop}
 use Rattle.basis.specs.Reply.{ok}
+use Rattle.std.specs.Prelude.{Result, Ok, Err}
+use Rattle.basis.specs.Refusal.{as_reply, refusal_number}
+use Rattle.basis.specs.declared.refusal.Refusal.{Refusal}
 use Rattle.calibration.specs.Date.{date_in}
-use Rattle.calibration.specs.Profile.{Fields, due_of, fields_of, as_reply, ReadProfileIs}
+use Rattle.calibration.specs.Profile.{Fields, due_of, fields_of, ReadProfileIs}
 use Rattle.calibration.specs.Shown.{shown_in, DueShownFromIs, DueShownIs}
 use Rattle.calibration.specs.declared.profile.Profile.{Profile}
-use Rattle.calibration.specs.declared.profile.ReadProfile.{ReadProfile}
-use Rattle.calibration.specs.declared.profile.ReadProfile.TheVariants as read
 use Rattle.calibration.specs.declared.shown.DueShownFrom.{DueShownFrom}
 use Rattle.calibration.specs.declared.shown.DueShownFrom.TheVariants as from
 use Rattle.calibration.proofs.OneReply.{due_shown_from}
@@ -32,28 +33,28 @@ due_there s p e =
     ap (λ (n : ℕ). take 4 (drop (n + 6) s)) t.serial_is ∙ sym b ∙ date_digits (date_in (due_of s)) ∙ ap digit_bytes (sym due)
 
 -- the card's record and the desk's, what `read_profile` answers of each, whose due date is shown, and its bytes
-module _ (c d : List ℕ) (yc yd : ReadProfile) (pc : ReadProfileIs c yc) (pd : ReadProfileIs d yd) (w : DueShownFrom)
+module _ (c d : List ℕ) (yc yd : Result Profile Refusal) (pc : ReadProfileIs c yc) (pd : ReadProfileIs d yd) (w : Result DueShownFrom Refusal)
     (pw : DueShownFromIs c d w) (b : List ℕ) (pb : DueShownIs c d b) where
   -- the card's, if its record is accepted, whatever the desk's is
-  pub shows_card : (p : Profile) → yc ≡ read.Profile p
-      → (w ≡ from.Card (p.serial + 6)) × (b ≡ take 4 (drop (p.serial + 6) c)) × (b ≡ digit_bytes p.due)
+  pub shows_card : (p : Profile) → yc ≡ Ok p
+      → (w ≡ Ok (from.Card (p.serial + 6))) × (b ≡ take 4 (drop (p.serial + 6) c)) × (b ≡ digit_bytes p.due)
   shows_card p e =
       let r = read_as c yc pc p e in
       let whose = card_shown c d p (p.serial + 6) r refl in
       let bytes : b ≡ take 4 (drop (p.serial + 6) c) = pb ∙ ap (shown_in c d) (sym whose) in
-      (due_shown_from c d w (from.Card (p.serial + 6)) pw whose, bytes, bytes ∙ due_there c p r)
+      (due_shown_from c d w (Ok (from.Card (p.serial + 6))) pw whose, bytes, bytes ∙ due_there c p r)
 
   -- the desk's, if the card's is refused, with 26 or 27
-  pub shows_desk : (k : ℕ) → yc ≡ read.Refused k → (p : Profile) → yd ≡ read.Profile p
-      → (w ≡ from.Desk (p.serial + 6)) × (b ≡ take 4 (drop (p.serial + 6) d)) × (b ≡ digit_bytes p.due)
+  pub shows_desk : (k : Refusal) → yc ≡ Err k → (p : Profile) → yd ≡ Ok p
+      → (w ≡ Ok (from.Desk (p.serial + 6))) × (b ≡ take 4 (drop (p.serial + 6) d)) × (b ≡ digit_bytes p.due)
   shows_desk k n p e =
       let r = read_as d yd pd p e in
-      let whose = desk_shown c d k p (p.serial + 6) (sym pc ∙ ap as_reply n) r refl in
+      let whose = desk_shown c d (refusal_number k) p (p.serial + 6) (sym pc ∙ ap as_reply n) r refl in
       let bytes : b ≡ take 4 (drop (p.serial + 6) d) = pb ∙ ap (shown_in c d) (sym whose) in
-      (due_shown_from c d w (from.Desk (p.serial + 6)) pw whose, bytes, bytes ∙ due_there d p r)
+      (due_shown_from c d w (Ok (from.Desk (p.serial + 6))) pw whose, bytes, bytes ∙ due_there d p r)
 
   -- if both are refused, no bytes, and the desk's refusal, whatever the card's was
-  pub shows_none : (k l : ℕ) → yc ≡ read.Refused k → yd ≡ read.Refused l → (w ≡ from.Refused l) × (b ≡ [])
+  pub shows_none : (k l : Refusal) → yc ≡ Err k → yd ≡ Err l → (w ≡ Err l) × (b ≡ [])
   shows_none k l n e =
-      let whose = none_shown c d k l (sym pc ∙ ap as_reply n) (sym pd ∙ ap as_reply e) in
-      (due_shown_from c d w (from.Refused l) pw whose, pb ∙ ap (shown_in c d) (sym whose))
+      let whose = none_shown c d (refusal_number k) (refusal_number l) (sym pc ∙ ap as_reply n) (sym pd ∙ ap as_reply e) in
+      (due_shown_from c d w (Err l) pw whose, pb ∙ ap (shown_in c d) (sym whose))

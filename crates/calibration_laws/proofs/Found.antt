@@ -15,8 +15,8 @@ use Rattle.tlv.specs.Object.{Item, next_of}
 use Rattle.tlv.specs.Lookup.{seek, follow, lookup, GetDataObjectIs, value_in, ValueIs}
 use Rattle.tlv.specs.declared.Reading.{Reading}
 use Rattle.tlv.specs.declared.Reading.TheVariants.{Crate, Standard}
-use Rattle.tlv.specs.declared.lookup.GetDataObject.{GetDataObject}
-use Rattle.tlv.specs.declared.lookup.GetDataObject.TheVariants as get
+use Rattle.tlv.specs.declared.lookup.Found as code_found
+use Rattle.tlv.specs.declared.lookup.Halt as code_halt
 use Rattle.tlv.proofs.Walk.{seek_here, seek_next}
 use Rattle.tlv.proofs.OneReply.{get_data_object}
 use Rattle.tlv_write.specs.Written.{tag_bytes, object_bytes}
@@ -25,10 +25,10 @@ use Rattle.tlv_laws.specs.Padding.{zero_bytes, moved_lookup}
 use Rattle.tlv_laws.specs.ReadBack.{written}
 use Rattle.tlv_laws.proofs.ZeroBytes.{zeros_lookup}
 use Rattle.tlv_laws.proofs.ReadBack.{written_read}
+use Rattle.std.specs.Prelude.{Result, Ok}
+use Rattle.basis.specs.declared.refusal.Refusal.{Refusal}
 use Rattle.calibration.specs.Profile.{Fields, object, template, serial_of, due_of, capacity_of, fields_of, ReadProfileIs}
 use Rattle.calibration.specs.declared.profile.Profile.{Profile}
-use Rattle.calibration.specs.declared.profile.ReadProfile.{ReadProfile}
-use Rattle.calibration.specs.declared.profile.ReadProfile.TheVariants as read
 use Rattle.calibration.proofs.Form.{Formed, profile_formed, inside, inside_size, template_size, serial_size, due_size, capacity_size}
 use Rattle.calibration.proofs.Read.{read_says, fields_told}
 use Rattle.calibration_laws.specs.Plain.{digit_bytes}
@@ -145,7 +145,7 @@ module _ (s : List ℕ) (f : Fields) (e : fields_of s ≡ ok f) where
       omega (arith, there, second, size, length-append s (b ∷ u), formed.heads.outer.1, lo))
 
 -- in a record that was read, the lookup finds the due date at the place where it is shown, whatever the reading is
-module _ (s : List ℕ) (y : ReadProfile) (py : ReadProfileIs s y) (p : Profile) (e : y ≡ read.Profile p) (r : Reading) where
+module _ (s : List ℕ) (y : Result Profile Refusal) (py : ReadProfileIs s y) (p : Profile) (e : y ≡ Ok p) (r : Reading) where
   found : lookup r s (0xE1 ∷ 0xC2 ∷ []) ≡ ok (record { at = p.serial + 6; len = 4; matched = 2 })
   found =
       let t = fields_told s p (read_as s y py p e) in
@@ -156,15 +156,15 @@ module _ (s : List ℕ) (y : ReadProfile) (py : ReadProfileIs s y) (p : Profile)
       ∙ template_found r (serial_of s) (due_of s) (capacity_of s) few (due_size s lo) (capacity_size s lo)
       ∙ (λ i. ok (record { at = size i + 6; len = 4; matched = 2 }))
 
-  pub due_found : (g : GetDataObject) → GetDataObjectIs r s (0xE1 ∷ 0xC2 ∷ []) g → g ≡ get.Value (p.serial + 6) 4 2
-  due_found g pg = get_data_object r s (0xE1 ∷ 0xC2 ∷ []) g (get.Value (p.serial + 6) 4 2) pg (sym found)
+  pub due_found : (g : Result code_found.Found code_halt.Halt) → GetDataObjectIs r s (0xE1 ∷ 0xC2 ∷ []) g → g ≡ Ok (record { at = p.serial + 6; len = 4; matched = 2 })
+  due_found g pg = get_data_object r s (0xE1 ∷ 0xC2 ∷ []) g (Ok (record { at = p.serial + 6; len = 4; matched = 2 })) pg (sym found)
 
   pub due_value : (x : List ℕ) → ValueIs r s (0xE1 ∷ 0xC2 ∷ []) x → x ≡ digit_bytes p.due
   due_value x px = px ∙ ap (value_in s) found ∙ due_there s p (read_as s y py p e)
 
 -- so a record is not what a lookup finds: with a zero byte in front it is refused with 26, and the lookup in the
 -- standard reading finds the date as before, one byte further on (rule 19.1)
-pub not_by_lookup : (s : List ℕ) (y : ReadProfile) → ReadProfileIs s y → (p : Profile) → y ≡ read.Profile p
+pub not_by_lookup : (s : List ℕ) (y : Result Profile Refusal) → ReadProfileIs s y → (p : Profile) → y ≡ Ok p
     → (fields_of (0 ∷ s) ≡ refused 26)
     × (lookup Standard (0 ∷ s) (0xE1 ∷ 0xC2 ∷ []) ≡ ok (record { at = p.serial + 7; len = 4; matched = 2 }))
 unfolding zero_bytes

@@ -2,39 +2,27 @@
 use Prim.Native.Nat.{ℕ, zero, suc}
 use mathlib.Core.Path.{◌≡◌, refl, ap, ◌∙⁻¹◌}
 use mathlib.Core.Bool.{Bool}
-use mathlib.Core.Option.{Option, some, none as no_channel}
 use Rattle.basis.specs.Reply.{Reply, ok, refused}
+use Rattle.basis.specs.declared.refusal.Refusal.{Refusal}
 use Rattle.basis.proofs.Reply.{apart}
-use Rattle.class.specs.Class.{as_reply, FromByteIs, IntoInnerIs}
+use Rattle.basis.proofs.OneReply.{refusal_back, number_there_and_back, one_reply, one_option}
+use Rattle.std.specs.Prelude.{Result, Ok, Err, Option}
+use Rattle.class.specs.Class.{FromByteIs, IntoInnerIs}
 use Rattle.class.specs.Range.{range_as_number, from_cla_as_reply, RangeIs, FromClaIs}
 use Rattle.class.specs.SecureMessaging.{secure_messaging_as_number, SecureMessagingIs, NoneIs}
 use Rattle.class.specs.Chain.{chain_as_number, ChainIs, AsChainedIs, LastOrOnlyIs, NotTheLastIs}
-use Rattle.class.specs.Channel.{channel_as_option, ChannelIs}
+use Rattle.class.specs.Channel.{ChannelIs}
 use Rattle.class.specs.declared.Class.{Class}
 use Rattle.class.specs.declared.Reading.{Reading}
-use Rattle.class.specs.declared.FromByte.{FromByte}
-use Rattle.class.specs.declared.FromByte.TheVariants as byte
 use Rattle.class.specs.declared.range.Range.{Range}
 use Rattle.class.specs.declared.range.Range.TheVariants as ranges
 use Rattle.class.specs.declared.range.Interindustry.TheVariants.{First, Further, Reserved}
-use Rattle.class.specs.declared.range.FromCla.{FromCla}
-use Rattle.class.specs.declared.range.FromCla.TheVariants as cla
 use Rattle.class.specs.declared.secure_messaging.SecureMessaging.{SecureMessaging}
 use Rattle.class.specs.declared.secure_messaging.SecureMessaging.TheVariants as sm
 use Rattle.class.specs.declared.chain.Chain.{Chain}
 use Rattle.class.specs.declared.chain.Chain.TheVariants as chains
-use Rattle.class.specs.declared.channel.Channel.{Channel}
-use Rattle.class.specs.declared.channel.Channel.TheVariants as channels
 
 -- the way back from a reply or a number to the answer, and that it leads back to the same answer
-abbrev byte_back : Reply Class → FromByte
-byte_back (ok c) = byte.Class c
-byte_back (refused k) = byte.Refused k
-
-byte_there_and_back : (x : FromByte) → byte_back (as_reply x) ≡ x
-byte_there_and_back (byte.Class c) = refl
-byte_there_and_back (byte.Refused k) = refl
-
 abbrev range_back : ℕ → Range
 range_back zero = ranges.Interindustry First
 range_back (suc zero) = ranges.Interindustry Further
@@ -47,13 +35,13 @@ range_there_and_back (ranges.Interindustry Further) = refl
 range_there_and_back (ranges.Interindustry Reserved) = refl
 range_there_and_back ranges.Proprietary = refl
 
-abbrev cla_back : Reply ℕ → FromCla
-cla_back (ok n) = cla.Range (range_back n)
-cla_back (refused k) = cla.Refused k
+abbrev cla_back : Reply ℕ → Result Range Refusal
+cla_back (ok n) = Ok (range_back n)
+cla_back (refused k) = Err (refusal_back k)
 
-cla_there_and_back : (x : FromCla) → cla_back (from_cla_as_reply x) ≡ x
-cla_there_and_back (cla.Range x) = ap cla.Range (range_there_and_back x)
-cla_there_and_back (cla.Refused k) = refl
+cla_there_and_back : (x : Result Range Refusal) → cla_back (from_cla_as_reply x) ≡ x
+cla_there_and_back (Ok x) = ap (λ (x : Range). Ok x) (range_there_and_back x)
+cla_there_and_back (Err k) = ap (λ (k : Refusal). Err k) (number_there_and_back k)
 
 abbrev indication_back : ℕ → SecureMessaging
 indication_back zero = sm.None
@@ -79,16 +67,8 @@ chain_there_and_back chains.LastOrOnly = refl
 chain_there_and_back chains.NotTheLast = refl
 chain_there_and_back chains.Unknown = refl
 
-abbrev channel_back : Option ℕ → Channel
-channel_back (some n) = channels.Number n
-channel_back no_channel = channels.None
-
-channel_there_and_back : (x : Channel) → channel_back (channel_as_option x) ≡ x
-channel_there_and_back (channels.Number n) = refl
-channel_there_and_back channels.None = refl
-
-pub from_byte : (c : ℕ) (r s : FromByte) → FromByteIs c r → FromByteIs c s → r ≡ s
-from_byte c r s p q = apart as_reply byte_back byte_there_and_back r s (p ∙⁻¹ q)
+pub from_byte : (c : ℕ) (r s : Result Class Refusal) → FromByteIs c r → FromByteIs c s → r ≡ s
+from_byte c r s p q = one_reply r s p q
 
 pub into_inner : (c : Class) (r s : ℕ) → IntoInnerIs c r → IntoInnerIs c s → r ≡ s
 into_inner c r s p q = p ∙⁻¹ q
@@ -96,7 +76,7 @@ into_inner c r s p q = p ∙⁻¹ q
 pub range : (c : Class) (r s : Range) → RangeIs c r → RangeIs c s → r ≡ s
 range c r s p q = apart range_as_number range_back range_there_and_back r s (p ∙⁻¹ q)
 
-pub from_cla : (c : ℕ) (r s : FromCla) → FromClaIs c r → FromClaIs c s → r ≡ s
+pub from_cla : (c : ℕ) (r s : Result Range Refusal) → FromClaIs c r → FromClaIs c s → r ≡ s
 from_cla c r s p q = apart from_cla_as_reply cla_back cla_there_and_back r s (p ∙⁻¹ q)
 
 pub secure_messaging : (k : Reading) (c : Class) (r s : SecureMessaging) → SecureMessagingIs k c r
@@ -118,5 +98,5 @@ last_or_only x r s p q = p ∙⁻¹ q
 pub not_the_last : (x : Chain) (r s : Bool) → NotTheLastIs x r → NotTheLastIs x s → r ≡ s
 not_the_last x r s p q = p ∙⁻¹ q
 
-pub channel : (k : Reading) (c : Class) (r s : Channel) → ChannelIs k c r → ChannelIs k c s → r ≡ s
-channel k c r s p q = apart channel_as_option channel_back channel_there_and_back r s (p ∙⁻¹ q)
+pub channel : (k : Reading) (c : Class) (r s : Option ℕ) → ChannelIs k c r → ChannelIs k c s → r ≡ s
+channel k c r s p q = one_option r s p q

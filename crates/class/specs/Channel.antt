@@ -1,12 +1,12 @@
 -- The logical channel in both readings (rules 8.6 and 8.7). ISO/IEC 7816-4:2005 5.1.1, tables 2 and 3.
 use Rattle.std.specs.Prelude.{ℕ, ◌+◌, ◌%◌, ◌≡◌}
 use Rattle.std.proofs.Math.Option.{Option, none, some}
+use Rattle.std.specs.Prelude as std
+use Rattle.basis.specs.Refusal.{as_option}
 use Rattle.class.specs.Range.{range_of, by_range}
 use Rattle.class.specs.declared.Class.{Class}
 use Rattle.class.specs.declared.Reading.{Reading}
 use Rattle.class.specs.declared.Reading.TheVariants.{Crate, Standard}
-use Rattle.class.specs.declared.channel.Channel.{Channel}
-use Rattle.class.specs.declared.channel.Channel.TheVariants.{Number, None}
 
 -- further interindustry (rule 8.7): the standard adds 4 to bits 4 to 1, the Rust keeps three bits of that sum
 unfoldable pub further_of : Reading → ℕ → ℕ
@@ -18,11 +18,6 @@ further_of Standard c = 4 + c % 16
 unfoldable pub channel_of : Reading → ℕ → Option ℕ
 channel_of r c = by_range (range_of c) (some (c % 4)) (some (further_of r c)) none
 
--- an answer of the code as a number, or none
-abbrev pub channel_as_option : Channel → Option ℕ
-channel_as_option (Number n) = some n
-channel_as_option None = none
-
 -- the promise of `channel`
-abbrev pub ChannelIs : Reading → Class → Channel → Type 0
-ChannelIs r c x = channel_as_option x ≡ channel_of r c.cla
+abbrev pub ChannelIs : Reading → Class → std.Option ℕ → Type 0
+ChannelIs r c x = as_option x ≡ channel_of r c.cla

@@ -1,21 +1,16 @@
 -- The class byte. ISO/IEC 7816-4:2005 5.1.1: 'FF' is no class.
-use Rattle.std.specs.Prelude.{ℕ, ◌≡◌, cond, eqb}
+use Rattle.std.specs.Prelude.{ℕ, ◌≡◌, Result, cond, eqb}
 use Rattle.basis.specs.Reply.{Reply, ok, refused}
+use Rattle.basis.specs.Refusal.{as_reply}
+use Rattle.basis.specs.declared.refusal.Refusal.{Refusal}
 use Rattle.class.specs.declared.Class.{Class}
-use Rattle.class.specs.declared.FromByte.{FromByte}
-use Rattle.class.specs.declared.FromByte.TheVariants as from_byte_cases
 
 -- the class of a byte; FF is refused with 3 (rule 1.3)
 unfoldable pub from_byte : ℕ → Reply Class
 from_byte c = cond (eqb c 0xFF) (refused 3) (ok (record { cla = c }))
 
--- an answer as a reply
-abbrev pub as_reply : FromByte → Reply Class
-as_reply (from_byte_cases.Class c) = ok c
-as_reply (from_byte_cases.Refused k) = refused k
-
 -- the promises of `from_byte` and `into_inner`
-abbrev pub FromByteIs : ℕ → FromByte → Type 0
+abbrev pub FromByteIs : ℕ → Result Class Refusal → Type 0
 FromByteIs c r = as_reply r ≡ from_byte c
 
 abbrev pub IntoInnerIs : Class → ℕ → Type 0

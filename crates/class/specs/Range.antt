@@ -1,10 +1,10 @@
 -- The range of a class, the same in both readings (rule 8.1). ISO/IEC 7816-4:2005 5.1.1, tables 2 and 3.
-use Rattle.std.specs.Prelude.{ℕ, ◌≡◌, cond, eqb, ltb}
+use Rattle.std.specs.Prelude.{ℕ, ◌≡◌, Result, Ok, Err, cond, eqb, ltb}
 use Rattle.basis.specs.Reply.{Reply, ok, refused, then}
+use Rattle.basis.specs.Refusal.{refusal_number}
+use Rattle.basis.specs.declared.refusal.Refusal.{Refusal}
 use Rattle.class.specs.Class.{from_byte}
 use Rattle.class.specs.declared.Class.{Class}
-use Rattle.class.specs.declared.range.FromCla.{FromCla}
-use Rattle.class.specs.declared.range.FromCla.TheVariants as from_cla_cases
 use Rattle.class.specs.declared.range.Range.{Range}
 use Rattle.class.specs.declared.range.Range.TheVariants as range
 use Rattle.class.specs.declared.range.Interindustry.TheVariants.{First, Further, Reserved}
@@ -42,13 +42,13 @@ range_as_number (range.Interindustry Further) = further
 range_as_number (range.Interindustry Reserved) = reserved
 range_as_number range.Proprietary = proprietary
 
-abbrev pub from_cla_as_reply : FromCla → Reply ℕ
-from_cla_as_reply (from_cla_cases.Range x) = ok (range_as_number x)
-from_cla_as_reply (from_cla_cases.Refused k) = refused k
+abbrev pub from_cla_as_reply : Result Range Refusal → Reply ℕ
+from_cla_as_reply (Ok x) = ok (range_as_number x)
+from_cla_as_reply (Err k) = refused (refusal_number k)
 
 -- the promises of `range` and `from_cla`
 abbrev pub RangeIs : Class → Range → Type 0
 RangeIs c r = range_as_number r ≡ range_of c.cla
 
-abbrev pub FromClaIs : ℕ → FromCla → Type 0
+abbrev pub FromClaIs : ℕ → Result Range Refusal → Type 0
 FromClaIs c r = from_cla_as_reply r ≡ from_cla c

@@ -5,7 +5,7 @@ ghost use Rattle.class.specs.Chain.{ChainIs, AsChainedIs, LastOrOnlyIs, NotTheLa
 use crate::Class;
 
 // What bit 0x10 says of a command. No operation returns `Unknown`.
-#[derive(Clone, Copy)]
+#[derive(Clone, Copy, PartialEq, Eq)]
 pub enum Chain {
     LastOrOnly,
     NotTheLast,
@@ -17,27 +17,20 @@ impl Chain {
     pub fn last_or_only(self) -> bool
         ensures { LastOrOnlyIs self result }
     {
-        match self {
-            Chain::LastOrOnly => true,
-            Chain::NotTheLast => false,
-            Chain::Unknown => false,
-        }
+        self == Chain::LastOrOnly
     }
 
     // Whether others follow.
     pub fn not_the_last(self) -> bool
         ensures { NotTheLastIs self result }
     {
-        match self {
-            Chain::LastOrOnly => false,
-            Chain::NotTheLast => true,
-            Chain::Unknown => false,
-        }
+        self == Chain::NotTheLast
     }
 }
 
 impl Class {
     // What bit 0x10 of the byte says (rule 8.2).
+    #[tactic(auto, using(crate::proofs::Bits::chaining_bit_and))]
     pub fn chain(self) -> Chain
         ensures { ChainIs self result }
     {
@@ -49,6 +42,7 @@ impl Class {
     }
 
     // The class with bit 0x10 set; of 0xEF that is 0xFF, which is no class (rule 8.3).
+    #[tactic(auto, using(crate::proofs::Bits::chained_or))]
     pub fn as_chained(self) -> Class
         ensures { AsChainedIs self result }
     {

@@ -5,13 +5,6 @@ ghost use Rattle.class.specs.Channel.{further_of, ChannelIs};
 
 use crate::{Class, Interindustry, Range, Reading};
 
-// A logical channel; a reserved or proprietary class has none.
-#[derive(Clone, Copy)]
-pub enum Channel {
-    Number(u8),
-    None,
-}
-
 // The channel of a further interindustry class, 40 to 7F (rule 8.7).
 fn further(reading: Reading, cla: u8) -> u8
     ensures { result ≡ further_of reading cla }
@@ -23,18 +16,15 @@ fn further(reading: Reading, cla: u8) -> u8
 }
 
 impl Class {
-    // The channel in a reading (rule 8.6 outside 40 to 7F).
-    pub fn channel(self, reading: Reading) -> Channel
+    // The channel in a reading (rule 8.6 outside 40 to 7F); a reserved or proprietary class has none.
+    #[tactic(auto, unfolding(crate::specs::Channel::channel_of))]
+    pub fn channel(self, reading: Reading) -> Option<u8>
         ensures { ChannelIs reading self result }
     {
-        let cla = self.cla;
         match self.range() {
-            Range::Interindustry(which) => match which {
-                Interindustry::First => Channel::Number(cla % 4),
-                Interindustry::Further => Channel::Number(further(reading, cla)),
-                Interindustry::Reserved => Channel::None,
-            },
-            Range::Proprietary => Channel::None,
+            Range::Interindustry(Interindustry::First) => Some(self.cla % 4),
+            Range::Interindustry(Interindustry::Further) => Some(further(reading, self.cla)),
+            Range::Interindustry(Interindustry::Reserved) | Range::Proprietary => None,
         }
     }
 }

@@ -10,13 +10,13 @@ mod channel;
 mod range;
 mod secure_messaging;
 
+use basis::Refusal;
 pub use chain::Chain;
-pub use channel::Channel;
-pub use range::{FromCla, Interindustry, Range};
+pub use range::{Interindustry, Range};
 pub use secure_messaging::SecureMessaging;
 
 // A class byte. Only `from_byte`, `as_chained` and the constants make one.
-#[derive(Clone, Copy)]
+#[derive(Clone, Copy, PartialEq, Eq)]
 pub struct Class {
     cla: u8,
 }
@@ -28,13 +28,6 @@ pub enum Reading {
     Standard,
 }
 
-// The class of a byte; 0xFF is no class (3).
-#[derive(Clone, Copy)]
-pub enum FromByte {
-    Class(Class),
-    Refused(u8),
-}
-
 // The three constants of the Rust (rule 8.8): interindustry; proprietary without secure messaging, and with it.
 pub const ZERO_CLA: Class = Class { cla: 0x00 };
 
@@ -44,13 +37,14 @@ pub const SM_CLA: Class = Class { cla: 0x84 };
 
 impl Class {
     // The class of a byte; 0xFF is refused with 3 (rule 1.3).
-    pub fn from_byte(cla: u8) -> FromByte
+    #[tactic(auto, unfolding(crate::specs::Class::from_byte))]
+    pub fn from_byte(cla: u8) -> Result<Class, Refusal>
         ensures { FromByteIs cla result }
     {
         if cla == 0xFF {
-            return FromByte::Refused(3);
+            return Err(Refusal::NoClass);
         }
-        FromByte::Class(Class { cla })
+        Ok(Class { cla })
     }
 
     // The byte of a class.

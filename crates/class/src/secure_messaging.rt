@@ -6,7 +6,7 @@ ghost use Rattle.class.specs.SecureMessaging.{first_of, further_of, secure_messa
 use crate::{Class, Interindustry, Range, Reading};
 
 // The indication; `Unknown` of a reserved or proprietary class.
-#[derive(Clone, Copy)]
+#[derive(Clone, Copy, PartialEq, Eq)]
 pub enum SecureMessaging {
     None,
     Proprietary,
@@ -20,13 +20,7 @@ impl SecureMessaging {
     pub fn none(self) -> bool
         ensures { NoneIs self result }
     {
-        match self {
-            SecureMessaging::None => true,
-            SecureMessaging::Proprietary => false,
-            SecureMessaging::Standard => false,
-            SecureMessaging::Authenticated => false,
-            SecureMessaging::Unknown => false,
-        }
+        self == SecureMessaging::None
     }
 }
 
@@ -34,8 +28,7 @@ impl SecureMessaging {
 fn first(cla: u8) -> SecureMessaging
     ensures { secure_messaging_as_number result ≡ first_of cla }
 {
-    let bits = cla / 4 % 4;
-    match bits {
+    match cla / 4 % 4 {
         0 => SecureMessaging::None,
         1 => SecureMessaging::Proprietary,
         2 => SecureMessaging::Standard,
@@ -44,6 +37,7 @@ fn first(cla: u8) -> SecureMessaging
 }
 
 // The indication of a further interindustry class, 40 to 7F (rule 8.5).
+#[tactic(auto, unfolding(crate::specs::SecureMessaging::further_of))]
 fn further(reading: Reading, cla: u8) -> SecureMessaging
     ensures { secure_messaging_as_number result ≡ further_of reading cla }
 {
@@ -61,17 +55,16 @@ fn further(reading: Reading, cla: u8) -> SecureMessaging
 
 impl Class {
     // The indication in a reading (rule 8.4 outside 40 to 7F).
+    #[tactic(auto, unfolding(crate::specs::SecureMessaging::secure_messaging_of))]
     pub fn secure_messaging(self, reading: Reading) -> SecureMessaging
         ensures { SecureMessagingIs reading self result }
     {
-        let cla = self.cla;
         match self.range() {
-            Range::Interindustry(which) => match which {
-                Interindustry::First => first(cla),
-                Interindustry::Further => further(reading, cla),
-                Interindustry::Reserved => SecureMessaging::Unknown,
-            },
-            Range::Proprietary => SecureMessaging::Unknown,
+            Range::Interindustry(Interindustry::First) => first(self.cla),
+            Range::Interindustry(Interindustry::Further) => further(reading, self.cla),
+            Range::Interindustry(Interindustry::Reserved) | Range::Proprietary => {
+                SecureMessaging::Unknown
+            }
         }
     }
 }

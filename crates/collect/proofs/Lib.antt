@@ -6,9 +6,6 @@
 --     none.
 --   from_22: no response is refused with a number below 22.
 --   expected_other: xx is the expected length, unless it is 00. That 00 is 256 holds by computing.
---   same_get_response, same_command, answers_refused, answers_done, answers_send serve the proofs of the functions.
--- Writing: what is to be sent is what the builder writes.
 -- OneReply: any two answers, rooms and buffers that a promise allows are equal.
 pub mod Steps
-pub mod Writing
 pub mod OneReply

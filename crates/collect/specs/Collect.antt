@@ -1,15 +1,16 @@
 -- A response collected from several: what each of them calls for, and the room that holds their data. Rules 14.1 to
 -- 14.8; refusals 22 and 23.
-use Rattle.std.specs.Prelude.{ℕ, zero, suc, ◌≡◌, cond, List, [], eqb, length, take}
+use Rattle.std.specs.Prelude.{ℕ, zero, suc, ◌≡◌, Result, Ok, Err, cond, List, [], eqb, length, take}
 use Rattle.std.proofs.Math.Option.{Option, none, some}
 use Rattle.basis.specs.Reply.{Reply, ok, refused, then}
+use Rattle.basis.specs.Refusal.{refusal_number}
+use Rattle.basis.specs.declared.refusal.Refusal.{Refusal}
 use Rattle.class.specs.declared.Class.{Class}
 use Rattle.builder.specs.Bytes.{SerializeIntoIs}
 use Rattle.builder.specs.declared.ExpectedLen.{ExpectedLen}
 use Rattle.builder.specs.declared.ExpectedLen.TheVariants.{Ne}
 use Rattle.builder.specs.declared.ExtendedLen.TheVariants.{Unsupported}
 use Rattle.builder.specs.declared.CommandBuilder.{CommandBuilder}
-use Rattle.builder.specs.declared.sizes.Length.{Length}
 use Rattle.response.specs.Response.{data_of, append_of, room_after}
 use Rattle.response.specs.declared.status.Status.{Status}
 use Rattle.response.specs.declared.Response.{Response}
@@ -18,8 +19,6 @@ use Rattle.collect.specs.declared.Sent.TheVariants.{Command, GetResponse}
 use Rattle.collect.specs.declared.Collection.{Collection}
 use Rattle.collect.specs.declared.Step.{Step}
 use Rattle.collect.specs.declared.Step.TheVariants as step
-use Rattle.collect.specs.declared.Next.{Next}
-use Rattle.collect.specs.declared.Next.TheVariants as next
 
 -- the expected length xx: 00 means 256 (rules 14.2 and 14.3)
 abbrev pub expected_by : ℕ → ExpectedLen
@@ -83,27 +82,26 @@ step_of c s m = then (append_of s c.len m) (λ r. ok (going_by (next_of c.sent r
 unfoldable pub step_room : Collection → List ℕ → List ℕ → List ℕ
 step_room c s room = room_after (append_of s c.len (length room)) c.len (data_of s) room
 
--- the answers of the code in these forms
-abbrev pub next_as_option : Next → Option Sent
-next_as_option (next.Send s) = some s
-next_as_option next.Nothing = none
+-- an answer of the code as a reply
+abbrev pub as_going : Step → Going
+as_going (step.Send c) = send c
+as_going (step.Done r) = done r
 
-abbrev pub as_reply : Step → Reply Going
-as_reply (step.Send c) = ok (send c)
-as_reply (step.Done r) = ok (done r)
-as_reply (step.Refused k) = refused k
+abbrev pub as_reply : Result Step Refusal → Reply Going
+as_reply (Ok x) = ok (as_going x)
+as_reply (Err k) = refused (refusal_number k)
 
 -- the promise of `start`: the command was sent, and no byte is held (rule 14.1)
 abbrev pub StartIs : CommandBuilder → Collection → Type 0
 StartIs b x = x ≡ record { sent = Command b; len = 0 }
 
 -- the promise of `step`
-pub record StepIs (c : Collection) (s room : List ℕ) (x : Step) (after : List ℕ) : Type 0 where
+pub record StepIs (c : Collection) (s room : List ℕ) (x : Result Step Refusal) (after : List ℕ) : Type 0 where
   pub reply : as_reply x ≡ step_of c s (length room)
   pub buffer : after ≡ step_room c s room
 
 -- the promise of `write`: what is to be sent is written as the builder writes it (rule 14.7)
-abbrev pub WriteIs : Collection → List ℕ → List ℕ → ℕ → Length → List ℕ → Type 0
+abbrev pub WriteIs : Collection → List ℕ → List ℕ → ℕ → Result ℕ Refusal → List ℕ → Type 0
 WriteIs c d buffer at x after = SerializeIntoIs (builder_of c.sent) (data_sent c.sent d) buffer at x after
 
 -- the promise of `collected`: the front of the room, as long as the response says (rule 14.8)

@@ -3,26 +3,27 @@
 use Prim.Native.Nat.{ℕ, ◌≤◌, ◌<◌}
 use mathlib.Core.Path.{◌≡◌, refl, sym, ap, ◌∙◌, subst}
 use mathlib.Core.Bool.{Bool, true, false, cond}
-use mathlib.Core.List.{List, [], ◌∷◌}
+use mathlib.Core.List.{List, [], ◌∷◌, ◌++◌, append-nil}
 use native.Mathlib.Omega.{arith}
 use borrow.Author.Tests.{lt-ltb, le-ltb}
 use lib.Dec.{eqb}
-use lib.ListN.{length, take, get_or}
+use lib.ListN.{length}
+use Rattle.std.specs.Prelude.{Result}
+use Rattle.basis.specs.declared.refusal.Refusal.{Refusal}
 use Rattle.basis.specs.Reply.{Reply, ok, refused, then}
 use Rattle.builder.specs.Bytes.{SerializeIntoIs}
 use Rattle.builder.specs.declared.CommandBuilder.{CommandBuilder}
-use Rattle.builder.specs.declared.sizes.Length.{Length}
 use Rattle.collect.specs.Collect.{Going, step_of, step_room, as_reply, StartIs, StepIs, WriteIs}
 use Rattle.collect.specs.declared.Sent.{Sent}
 use Rattle.collect.specs.declared.Sent.TheVariants.{Command, GetResponse}
 use Rattle.collect.specs.declared.Collection.{Collection}
 use Rattle.collect.specs.declared.Step.{Step}
 use Rattle.collect.proofs.Steps.{From22, from_22, refused_kept}
-use Rattle.abi.specs.Answers.{too_short, room_after, RefusalStatusIs, NumbersWritten, BytesCopied}
+use Rattle.abi.specs.Answers.{too_short, room_after, RefusalStatusIs, NumbersWritten}
 use Rattle.abi.specs.Builders.{builder_by_numbers}
 use Rattle.abi.proofs.AnswerLaws.{refusal_fitted, refusal_written}
 use Rattle.collect_abi.specs.Numbers.{builder_numbers, sent_numbers, state_numbers, data_by_kind, sent_by_kind}
-use Rattle.collect_abi.specs.Numbers.{state_by_numbers, sending_numbers, stepped_reply, ResponseTaken, CollectedData}
+use Rattle.collect_abi.specs.Numbers.{state_by_numbers, sending_numbers, stepped_reply, ResponseTaken}
 
 -- a state has eight numbers, and an answer that goes on twelve
 eight_by : (s : Sent) (n : ℕ) → length (sent_numbers s n) ≡ 8
@@ -32,10 +33,6 @@ eight_by (GetResponse b) n = refl
 
 pub eight_numbers : (c : Collection) → length (state_numbers c) ≡ 8
 eight_numbers c = eight_by c.sent c.len
-
-pub twelve_numbers : (c : Collection) → length (sending_numbers c) ≡ 12
-unfolding sending_numbers
-twelve_numbers c = omega (arith, eight_numbers c)
 
 -- numbers vs written are the m numbers ws
 pub numbers_of : (m : ℕ) (vs ws out : List ℕ) (r : ℕ) (after : List ℕ) → vs ≡ ws → length ws ≡ m
@@ -51,19 +48,10 @@ start_row x b c vs out r after f g e a =
     let s : Collection = record { sent = Command b; len = 0 } in
     rw f (numbers_of 8 vs (state_numbers s) out r after (e ∙ ap state_numbers g) (eight_numbers s) a)
 
--- the row of an answer that goes on, from the numbers of its state one by one
-row_by : (s : Sent) (n : ℕ)
-    → let vs = sent_numbers s n in
-    get_or vs 0 0 ∷ get_or vs 1 0 ∷ get_or vs 2 0 ∷ get_or vs 3 0 ∷ get_or vs 4 0 ∷ get_or vs 5 0 ∷ get_or vs 6 0 ∷ get_or vs 7 0 ∷ [] ≡ vs
-unfolding builder_numbers
-row_by (Command b) n = refl
-row_by (GetResponse b) n = refl
-
-pub sending_row : (c : Collection) (vs : List ℕ) → vs ≡ state_numbers c
-    → 0 ∷ 0 ∷ 0 ∷ 0 ∷ get_or vs 0 0 ∷ get_or vs 1 0 ∷ get_or vs 2 0 ∷ get_or vs 3 0 ∷ get_or vs 4 0 ∷ get_or vs 5 0 ∷ get_or vs 6 0 ∷ get_or vs 7 0 ∷ []
-    ≡ sending_numbers c
+-- the row of an answer that goes on, from the numbers of its state
+pub sending_row : (c : Collection) (vs : List ℕ) → vs ≡ state_numbers c → 0 ∷ 0 ∷ 0 ∷ 0 ∷ (vs ++ []) ≡ sending_numbers c
 unfolding sending_numbers
-sending_row c vs e = rw e (ap (λ (l : List ℕ). 0 ∷ 0 ∷ 0 ∷ 0 ∷ l) (row_by c.sent c.len))
+sending_row c vs e = rw (append-nil, e)
 
 -- the state by numbers, from a builder without data
 module _ (k c i p q e m n : ℕ) where
@@ -77,13 +65,13 @@ module _ (k c i p q e m n : ℕ) where
   state_is b s f g = rw f (ap (λ s. ok (record { sent = s; len = n })) (sym g))
 
 -- what is to be sent is written as the command of its builder, with the data that go with its kind
-serialized_by : (w : Bool) (b : CommandBuilder) (d l : List ℕ) (at : ℕ) (y : Length) (after : List ℕ)
+serialized_by : (w : Bool) (b : CommandBuilder) (d l : List ℕ) (at : ℕ) (y : Result ℕ Refusal) (after : List ℕ)
     → WriteIs (record { sent = cond w (Command b) (GetResponse b); len = 0 }) d l at y after
     → SerializeIntoIs b (cond w d []) l at y after
 serialized_by true b d l at y after h = h
 serialized_by false b d l at y after h = h
 
-pub sent_serialized : (k : ℕ) (b : CommandBuilder) (s : Sent) (d l : List ℕ) (at : ℕ) (y : Length) (after : List ℕ)
+pub sent_serialized : (k : ℕ) (b : CommandBuilder) (s : Sent) (d l : List ℕ) (at : ℕ) (y : Result ℕ Refusal) (after : List ℕ)
     → s ≡ sent_by_kind k b → WriteIs (record { sent = s; len = 0 }) d l at y after
     → SerializeIntoIs b (data_by_kind k d) l at y after
 sent_serialized k b s d l at y after e h =
@@ -112,15 +100,9 @@ module _ (x : Reply Collection) (s room out : List ℕ) where
         let k = short_16 (step_of c s (length room)) (from_22 c s (length room)) in
         record { says = record { reply = rw (f, n, k); row = rw (f, n, k) }; bytes = rw (f, n, k) }
 
-    pub response_taken : 12 ≤ length out → (y : Step) (room' : List ℕ) → StepIs c s room y room' → (r : ℕ) (out' : List ℕ)
+    pub response_taken : 12 ≤ length out → (y : Result Step Refusal) (room' : List ℕ) → StepIs c s room y room' → (r : ℕ) (out' : List ℕ)
         → NumbersWritten 12 (stepped_reply (as_reply y)) out r out' → ResponseTaken x s room out r room' out'
     response_taken h y room' t r out' a =
         let n = le-ltb (length out) 12 h in
         let kept = room_kept (step_of c s (length room)) (step_room c s room) room (λ k. refused_kept c s room k) in
         record { says = rw (f, ← t.reply) a; bytes = rw (f, n) (t.buffer ∙ kept) }
-
--- the data of a response of length n, copied
-pub data_copied : (n m : ℕ) (d room to out : List ℕ) (x : ℕ) (to' out' : List ℕ) → m ≡ n → d ≡ take m room
-    → BytesCopied d to out x to' out' → CollectedData n room to out x to' out'
-data_copied n m d room to out x to' out' e f a =
-    subst (λ z. BytesCopied z to out x to' out') (f ∙ ap (λ k. take k room) e) a

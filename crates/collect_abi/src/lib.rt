@@ -1,6 +1,7 @@
 // What a host program calls to collect a response (rules 14.1 to 14.8). The state of a collection goes into a call and
 // out of it as eight numbers: kind (0 for the command, any other for GET RESPONSE), class, instruction, P1, P2,
 // expected length, mode, and how many bytes are held. Each function returns 0, or the number of a refusal.
+// Stays: a builder goes in as numbers, one by one, and what is replied goes out as numbers: the C interface.
 #![tactic(auto)]
 
 ghost use Rattle.std.specs.Prelude.{◌≤◌, ◌≡◌, length};
@@ -13,7 +14,8 @@ ghost use Rattle.collect_abi.specs.Numbers.{data_by_kind, sent_by_kind, state_by
 ghost use Rattle.collect_abi.specs.Numbers.{stepped_reply, ResponseTaken, SentWritten, CollectedData};
 
 use abi::{builder_by_numbers, expected_len_number, refusal_status, write_numbers};
-use builder::{Built, CommandBuilder, ExtendedLen, Length};
+use basis::Refusal;
+use builder::{CommandBuilder, ExtendedLen};
 use collect::{Collection, Sent, Step};
 use response::{Response, Status};
 
@@ -29,20 +31,18 @@ fn mode_number(mode: ExtendedLen) -> u64
 }
 
 // The eight numbers of a state: of this kind, with this builder and so many bytes held.
+#[tactic(auto, unfolding(crate::specs::Numbers::builder_numbers))]
 fn builder_numbers(kind: u64, builder: CommandBuilder, held: usize) -> [u64; 8]
     ensures { result ≡ builder_numbers kind builder held }
 {
-    let class = builder.class;
-    let le = builder.le;
-    let mode = builder.mode;
     [
         kind,
-        class.into_inner() as u64,
-        builder.instruction as u64,
-        builder.p1 as u64,
-        builder.p2 as u64,
-        expected_len_number(le),
-        mode_number(mode),
+        u64::from(builder.class.into_inner()),
+        u64::from(builder.instruction),
+        u64::from(builder.p1),
+        u64::from(builder.p2),
+        expected_len_number(builder.le),
+        mode_number(builder.mode),
         held as u64,
     ]
 }
@@ -51,14 +51,14 @@ fn builder_numbers(kind: u64, builder: CommandBuilder, held: usize) -> [u64; 8]
 fn state_numbers(state: Collection) -> [u64; 8]
     ensures { result ≡ state_numbers state }
 {
-    let sent = state.sent;
-    match sent {
+    match state.sent {
         Sent::Command(builder) => builder_numbers(0, builder, state.len),
         Sent::GetResponse(builder) => builder_numbers(1, builder, state.len),
     }
 }
 
 // Writes 8 numbers for the host: the state after this command was sent (rule 14.1). Refused with 3, 13 or 16.
+#[tactic(auto, unfolding(crate::specs::Numbers::start_reply))]
 #[unsafe(no_mangle)]
 pub extern "C" fn gorvisclen_collect_start(
     class: u8,
@@ -74,12 +74,8 @@ pub extern "C" fn gorvisclen_collect_start(
         out.new }
 {
     match builder_by_numbers(class, instruction, p1, p2, le, mode, data) {
-        Built::Refused(k) => refusal_status(k, out.len(), 8),
-        Built::Builder(builder) => {
-            let state = Collection::start(builder);
-            let numbers = state_numbers(state);
-            write_numbers(&numbers, out)
-        }
+        Err(refusal) => refusal_status(refusal.number(), out.len(), 8),
+        Ok(builder) => write_numbers(&state_numbers(Collection::start(builder)), out),
     }
 }
 
@@ -87,46 +83,41 @@ pub extern "C" fn gorvisclen_collect_start(
 fn data_by_kind<'a>(kind: u8, data: &'a [u8]) -> &'a [u8]
     ensures { result.now ≡ data_by_kind kind «data».now }
 {
-    if kind == 0 {
-        return data;
-    }
-    &data[..0]
+    if kind == 0 { data } else { &[] }
 }
 
 // What was sent, by its kind: 0 for the command, any other for GET RESPONSE.
 fn sent_by_kind(kind: u8, builder: CommandBuilder) -> Sent
     ensures { result ≡ sent_by_kind kind builder }
 {
-    if kind == 0 {
-        return Sent::Command(builder);
+    match kind {
+        0 => Sent::Command(builder),
+        _ => Sent::GetResponse(builder),
     }
-    Sent::GetResponse(builder)
 }
 
 // The twelve numbers of an answer that goes on: four zeros, and the eight of the state.
+#[tactic(auto, using(crate::proofs::LentSlices::sending_row))]
 fn sending_numbers(state: Collection) -> [u64; 12]
     ensures { result ≡ sending_numbers state }
 {
-    let n = state_numbers(state);
-    [0, 0, 0, 0, n[0], n[1], n[2], n[3], n[4], n[5], n[6], n[7]]
+    let mut row = [0; 12];
+    row[4..].copy_from_slice(&state_numbers(state));
+    row
 }
 
 // Writes the answer to a response: the end and eight zeros, or the state with what is to be sent next.
-fn write_step(answer: Step, out: &mut [u64]) -> u8
+fn write_step(answer: Result<Step, Refusal>, out: &mut [u64]) -> u8
     ensures { NumbersWritten 12 (stepped_reply (as_reply answer)) out.old result out.new }
 {
     match answer {
-        Step::Refused(k) => refusal_status(k, out.len(), 12),
-        Step::Send(state) => {
-            let row = sending_numbers(state);
-            write_numbers(&row, out)
-        }
-        Step::Done(whole) => {
-            let status = whole.status;
+        Err(refusal) => refusal_status(refusal.number(), out.len(), 12),
+        Ok(Step::Send(state)) => write_numbers(&sending_numbers(state), out),
+        Ok(Step::Done(whole)) => {
             let row = [
                 1,
-                status.sw1 as u64,
-                status.sw2 as u64,
+                u64::from(whole.status.sw1),
+                u64::from(whole.status.sw2),
                 whole.len as u64,
                 0,
                 0,
@@ -162,11 +153,11 @@ pub extern "C" fn gorvisclen_collect_step(
     ensures { ResponseTaken (state_by_numbers kind class instruction p1 p2 le mode held) response.now
         room.old out.old result room.new out.new }
 {
-    match builder_by_numbers(class, instruction, p1, p2, le, mode, &response[..0]) {
-        Built::Refused(k) => refusal_status(k, out.len(), 12),
-        Built::Builder(builder) => {
+    match builder_by_numbers(class, instruction, p1, p2, le, mode, &[]) {
+        Err(not_made) => refusal_status(not_made.number(), out.len(), 12),
+        Ok(builder) => {
             if out.len() < 12 {
-                return 16;
+                return Refusal::DoesNotFit.number();
             }
             let sent = sent_by_kind(kind, builder);
             let state = Collection { sent, len: held };
@@ -196,8 +187,8 @@ fn write_sent(
         len: 0,
     };
     match state.write(data, buffer, at) {
-        Length::Refused(k) => k,
-        Length::Bytes(n) => {
+        Err(refusal) => refusal.number(),
+        Ok(n) => {
             out[0] = n as u64;
             0
         }
@@ -225,10 +216,10 @@ pub extern "C" fn gorvisclen_collect_write(
 {
     let sent_data = data_by_kind(kind, data);
     match builder_by_numbers(class, instruction, p1, p2, le, mode, sent_data) {
-        Built::Refused(k) => refusal_status(k, out.len(), 1),
-        Built::Builder(builder) => {
+        Err(refusal) => refusal_status(refusal.number(), out.len(), 1),
+        Ok(builder) => {
             if out.len() < 1 {
-                return 16;
+                return Refusal::DoesNotFit.number();
             }
             write_sent(kind, builder, data, buffer, at, out)
         }
@@ -239,8 +230,10 @@ pub extern "C" fn gorvisclen_collect_write(
 fn response_of_length(len: usize) -> Response
     ensures { result.len ≡ len }
 {
-    let status = Status { sw1: 0x90, sw2: 0 };
-    Response { len, status }
+    Response {
+        len,
+        status: Status { sw1: 0x90, sw2: 0 },
+    }
 }
 
 // Copies the collected data from the front of the room to the front of `to`, and writes their length (rule 14.8).

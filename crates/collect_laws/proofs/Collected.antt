@@ -9,12 +9,13 @@ use native.Mathlib.Nat.{zero-add, sub-zero}
 use native.Mathlib.Omega.{arith}
 use lib.ListN.{length, take, drop}
 use lib.Seq.{take-append_seam}
+use Rattle.std.specs.Prelude.{Result}
 use Rattle.basis.specs.Reply.{ok}
+use Rattle.basis.specs.Refusal.{as_reply}
+use Rattle.basis.specs.declared.refusal.Refusal.{Refusal}
 use Rattle.basis.specs.Over.{over}
 use Rattle.basis.proofs.Over.{over_at_zero, length_over}
-use Rattle.builder.specs.Bytes.{as_reply}
 use Rattle.builder.specs.declared.CommandBuilder.{CommandBuilder}
-use Rattle.builder.specs.declared.sizes.Length.{Length}
 use Rattle.builder_laws.proofs.Written.{command_in_buffer}
 use Rattle.response.specs.Response.{status_of}
 use Rattle.response.specs.declared.status.Status.{Status}
@@ -125,7 +126,7 @@ pub same_bytes : (b : CommandBuilder) (c : Collection) → StartIs b c → (room
 same_bytes b c begun room room' ss ss' d e = ap (map (bytes_of d)) (same_sent b c begun room room' ss ss' e)
 
 -- `write` leaves the bytes of what is to be sent in the buffer, at its place (rule 14.7)
-pub sent_written : (c : Collection) (d buffer : List ℕ) (at n : ℕ) (x : Length) (after : List ℕ) → WriteIs c d buffer at x after
+pub sent_written : (c : Collection) (d buffer : List ℕ) (at n : ℕ) (x : Result ℕ Refusal) (after : List ℕ) → WriteIs c d buffer at x after
     → as_reply x ≡ ok n → take n (drop at after) ≡ bytes_of d c.sent
 unfolding bytes_of
 sent_written c d buffer at n x after w e = command_in_buffer (builder_of c.sent) (data_sent c.sent d) buffer at n x after w e

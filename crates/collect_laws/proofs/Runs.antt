@@ -4,7 +4,10 @@ use mathlib.Core.Path.{◌≡◌, refl, sym, ap, ◌∙◌}
 use mathlib.Core.List.{List, [], ◌∷◌, ◌++◌, append-nil}
 use native.Mathlib.Omega.{arith}
 use lib.ListN.{length}
+use Rattle.std.specs.Prelude.{Ok, Err}
 use Rattle.basis.specs.Reply.{Reply, ok, refused}
+use Rattle.basis.specs.Refusal.{refusal_number}
+use Rattle.basis.specs.declared.refusal.Refusal.{Refusal}
 use Rattle.response.specs.declared.Response.{Response}
 use Rattle.collect.specs.Collect.{Going, send, done, step_of, step_room, StepIs}
 use Rattle.collect.specs.declared.Collection.{Collection}
@@ -36,7 +39,7 @@ run_refused c room s ss k e = run_first c room s ss (refused k) room e (refused_
 -- a run is what a caller of `step` gets, response after response, by its promise: he goes on with the state that it
 -- answers, or is done, or keeps the state and the room that he had
 module _ (c : Collection) (room s : List ℕ) (ss : List (List ℕ)) where
-  pub run_called_send : (after : List ℕ) (x : Collection) → StepIs c s room (step.Send x) after
+  pub run_called_send : (after : List ℕ) (x : Collection) → StepIs c s room (Ok (step.Send x)) after
       → run c room (s ∷ ss) ≡ record {
         replies = ok (send x) ∷ (run x after ss).replies;
         stands = (run x after ss).stands;
@@ -44,20 +47,20 @@ module _ (c : Collection) (room s : List ℕ) (ss : List (List ℕ)) where
       }
   run_called_send after x h = run_first c room s ss (ok (send x)) after (sym h.reply) (sym h.buffer)
 
-  pub run_called_done : (after : List ℕ) (r : Response) → StepIs c s room (step.Done r) after
+  pub run_called_done : (after : List ℕ) (r : Response) → StepIs c s room (Ok (step.Done r)) after
       → run c room (s ∷ ss) ≡ record { replies = ok (done r) ∷ []; stands = done r; room = after }
   run_called_done after r h =
       run_first c room s ss (ok (done r)) after (sym h.reply) (sym h.buffer)
       ∙ ap (reply_then (ok (done r))) (run_done r after ss)
 
-  pub run_called_refused : (after : List ℕ) (k : ℕ) → StepIs c s room (step.Refused k) after
+  pub run_called_refused : (after : List ℕ) (k : Refusal) → StepIs c s room (Err k) after
       → (after ≡ room) × (run c room (s ∷ ss) ≡ record {
-        replies = refused k ∷ (run c room ss).replies;
+        replies = refused (refusal_number k) ∷ (run c room ss).replies;
         stands = (run c room ss).stands;
         room = (run c room ss).room;
       })
   run_called_refused after k h =
-      (h.buffer ∙ refused_kept c s room k (sym h.reply), run_refused c room s ss k (sym h.reply))
+      (h.buffer ∙ refused_kept c s room (refusal_number k) (sym h.reply), run_refused c room s ss (refusal_number k) (sym h.reply))
 
 -- a run, and another after it
 abbrev pub then : Run → Run → Run

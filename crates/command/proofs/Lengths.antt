@@ -17,11 +17,6 @@ use Rattle.command.specs.Body.{lengths, or_most, byte, pair, short_body, long_bo
 use Rattle.command.specs.Command.{view_of, lc_bytes, le_bytes, Measured}
 use Rattle.command.specs.declared.body.ParsedLengths.{ParsedLengths}
 
--- a number that is not zero means itself
-pub or_most_lem : (most n : ℕ) → (n ≡ 0 → ⊥) → n ≡ or_most most n
-or_most_lem most zero h = absurd (h refl)
-or_most_lem most (suc n) h = refl
-
 -- a body of two bytes or more, by its first byte
 module _ (r : Reading) (s : List ℕ) (l : 2 ≤ length s) where
   pub first_byte_zero : byte s 0 ≡ 0 → body_of r s ≡ extended_of r s

@@ -4,7 +4,7 @@ use mathlib.Core.Path.{◌≡◌}
 use mathlib.Core.List.{List}
 use native.Mathlib.Omega.{arith}
 use native.Mathlib.Nat.{add-sub_cancel_left}
-use borrow.Author.Tests.{lt-ltb, le-ltb, ltb-false}
+use borrow.Author.Tests.{lt-ltb, ltb-false}
 use lib.Dec.{ltb}
 use lib.ListN.{length, get_or, take, drop, length-drop}
 use Rattle.basis.specs.Reply.{ok, refused}
@@ -24,17 +24,6 @@ module _ (r : Reading) (s : List ℕ) where
   pub too_short : length s < 4 → refused 1 ≡ parse r s
   unfolding parse
   too_short l = rw (lt-ltb (length s) 4 l)
-
-  pub class_refused : (k : ℕ) → 4 ≤ length s → from_byte (get_or s 0 0) ≡ refused k → refused k ≡ parse r s
-  unfolding parse
-  class_refused k l e = rw (le-ltb (length s) 4 l, e)
-
-  pub class_accepted : (c : Class) → 4 ≤ length s → from_byte (get_or s 0 0) ≡ ok c → parse_body r s c ≡ parse r s
-  unfolding parse
-  class_accepted c l e = rw (le-ltb (length s) 4 l, e)
-
-  pub body_refused : (c : Class) (k : ℕ) → body_of r (take (length s - 4) (drop 4 s)) ≡ refused k → refused k ≡ parse_body r s c
-  body_refused c k e = rw (rw rest_is at e)
 
   pub body_accepted : (c : Class) (b : ParsedLengths) → body_of r (take (length s - 4) (drop 4 s)) ≡ ok b → ok (view_of c s b) ≡ parse_body r s c
   body_accepted c b e = rw (rw rest_is at e)

@@ -4,8 +4,6 @@ use Rattle.basis.specs.Reply.{Reply, ok, refused}
 use Rattle.class.specs.declared.Reading.{Reading}
 use Rattle.class.specs.declared.Reading.TheVariants.{Crate, Standard}
 use Rattle.command.specs.declared.body.ParsedLengths.{ParsedLengths}
-use Rattle.command.specs.declared.body.ParseLengths.{ParseLengths}
-use Rattle.command.specs.declared.body.ParseLengths.TheVariants.{Lengths, Refused}
 
 -- the reply with these lengths: where the data start, how many bytes they are, Le, and whether the lengths are extended
 abbrev pub lengths : ℕ → ℕ → ℕ → Bool → Reply ParsedLengths
@@ -62,8 +60,3 @@ body_of r s =
     cond (eqb (length s) 0) (lengths 0 0 0 false)
     (cond (eqb (length s) 1) (lengths 0 0 (or_most 256 (byte s 0)) false)
     (cond (eqb (byte s 0) 0) (extended_of r s) (short_body (byte s 0) s)))
-
--- an answer as a reply
-abbrev pub as_reply : ParseLengths → Reply ParsedLengths
-as_reply (Lengths x) = ok x
-as_reply (Refused k) = refused k

@@ -1,13 +1,13 @@
 -- A command that is read: its numbers and its data. Rules 2.1, 2.2, 2.7 and 2.8; refusals 1 and 3 (rules 1.1 and 1.3).
-use Rattle.std.specs.Prelude.{ℕ, ◌+◌, ◌≡◌, cond, List, [], ltb, eqb, length, get_or, take, drop}
+use Rattle.std.specs.Prelude.{ℕ, ◌+◌, ◌≡◌, Result, cond, List, [], ltb, eqb, length, get_or, take, drop}
 use Rattle.basis.specs.Reply.{Reply, ok, refused, then}
+use Rattle.basis.specs.Refusal.{as_reply}
+use Rattle.basis.specs.declared.refusal.Refusal.{Refusal}
 use Rattle.class.specs.Class.{from_byte}
 use Rattle.class.specs.declared.Class.{Class}
 use Rattle.class.specs.declared.Reading.{Reading}
 use Rattle.command.specs.Body.{body_of}
 use Rattle.command.specs.declared.CommandView.{CommandView}
-use Rattle.command.specs.declared.Parsed.{Parsed}
-use Rattle.command.specs.declared.Parsed.TheVariants.{View, Refused}
 use Rattle.command.specs.declared.body.ParsedLengths.{ParsedLengths}
 
 -- the numbers of a command: its class, the three header bytes after it, which are any bytes (rule 2.2), and the lengths
@@ -38,11 +38,6 @@ abbrev pub data_in : List ℕ → Reply CommandView → List ℕ
 data_in s (ok v) = take v.len (drop v.at s)
 data_in s (refused k) = []
 
--- an answer as a reply
-abbrev pub as_reply : Parsed → Reply CommandView
-as_reply (View v) = ok v
-as_reply (Refused k) = refused k
-
 -- how many bytes of a command are its Lc: the data start after it
 unfoldable pub lc_bytes : CommandView → ℕ
 lc_bytes v = cond (eqb v.at 4) 0 (cond v.extended 3 1)
@@ -66,7 +61,7 @@ pub record ZeroLc (s : List ℕ) : Type 0 where
   pub low : get_or s 6 0 ≡ 0
 
 -- the promises of `try_from` and `data`
-abbrev pub TryFromIs : Reading → List ℕ → Parsed → Type 0
+abbrev pub TryFromIs : Reading → List ℕ → Result CommandView Refusal → Type 0
 TryFromIs r s x = as_reply x ≡ parse r s
 
 abbrev pub DataIs : Reading → List ℕ → List ℕ → Type 0

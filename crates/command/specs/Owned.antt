@@ -1,15 +1,14 @@
 -- An owned copy of a command in a lent room, and its extension. Rules 1.2, 1.18, 1.26, 2.9 and 2.10.
-use Rattle.std.specs.Prelude.{ℕ, ◌+◌, ◌≡◌, Bool, true, cond, List, ltb, length}
+use Rattle.std.specs.Prelude.{ℕ, ◌+◌, ◌≡◌, Bool, true, cond, List, Result, Err, ltb, length}
 use Rattle.basis.specs.Reply.{Reply, ok, refused, then}
 use Rattle.basis.specs.Over.{over, over_at}
+use Rattle.basis.specs.Refusal.{as_reply}
+use Rattle.basis.specs.declared.refusal.Refusal.{Refusal}
+use Rattle.basis.specs.declared.refusal.Refusal.TheVariants.{RoomExceeded}
 use Rattle.class.specs.declared.Reading.{Reading}
 use Rattle.command.specs.Command.{parse, data_in}
 use Rattle.command.specs.declared.CommandView.{CommandView}
 use Rattle.command.specs.declared.owned.Command.{Command}
-use Rattle.command.specs.declared.owned.Owned.{Owned}
-use Rattle.command.specs.declared.owned.Owned.TheVariants as owned
-use Rattle.command.specs.declared.owned.Extending.{Extending}
-use Rattle.command.specs.declared.owned.Extending.TheVariants as extending
 use Rattle.command.specs.declared.owned.Extended.{Extended}
 
 -- the header and expected length of a view, with n data bytes and the flag x
@@ -26,24 +25,14 @@ abbrev pub copied_room : Reply Command → List ℕ → List ℕ → List ℕ
 copied_room (ok c) d room = over d room
 copied_room (refused k) d room = room
 
--- an answer as a reply
-abbrev pub owned_as_reply : Owned → Reply Command
-owned_as_reply (owned.Command c) = ok c
-owned_as_reply (owned.Refused k) = refused k
-
 -- the promise of `Command::try_from`: what reading refuses is refused before 2 (rule 1.23)
-pub record OwnedIs (r : Reading) (s room : List ℕ) (x : Owned) (after : List ℕ) : Type 0 where
-  pub reply : owned_as_reply x ≡ then (parse r s) (owned_of (length room))
+pub record OwnedIs (r : Reading) (s room : List ℕ) (x : Result Command Refusal) (after : List ℕ) : Type 0 where
+  pub reply : as_reply x ≡ then (parse r s) (owned_of (length room))
   pub buffer : after ≡ copied_room (then (parse r s) (owned_of (length room))) (data_in s (parse r s)) room
 
 -- how many data bytes are held after n new ones, in a room of m bytes: 18 if they exceed it together (rule 1.18)
 unfoldable pub extend_of : ℕ → ℕ → ℕ → Reply ℕ
 extend_of held n m = cond (ltb m (held + n)) (refused 18) (ok (held + n))
-
--- an answer as a reply
-abbrev pub extending_as_reply : Extending → Reply (Unit {0})
-extending_as_reply extending.Done = ok tt
-extending_as_reply (extending.Refused k) = refused k
 
 -- a reply without its number
 abbrev pub done : Reply ℕ → Reply (Unit {0})
@@ -62,10 +51,10 @@ extended_room (refused k) held d room = room
 -- the promise of `extend_from_command_view`: header and expected length are those of v and the flag is true, also with
 -- a refusal (rule 1.26)
 pub record ExtendFromCommandViewIs (c : Command) (v : CommandView) (d room : List ℕ) (x : Extended) (after : List ℕ) : Type 0 where
-  pub reply : extending_as_reply x.answer ≡ done (extend_of c.len (length d) (length room))
+  pub reply : as_reply x.answer ≡ done (extend_of c.len (length d) (length room))
   pub command : x.command ≡ taken_of v (held_after (extend_of c.len (length d) (length room)) c.len) true
   pub buffer : after ≡ extended_room (extend_of c.len (length d) (length room)) c.len d room
 
 -- a refused extension: the held data stay (rule 1.26)
 abbrev pub refused_extension : CommandView → ℕ → Extended
-refused_extension v held = record { answer = extending.Refused 18; command = taken_of v held true }
+refused_extension v held = record { answer = Err RoomExceeded; command = taken_of v held true }

@@ -4,14 +4,15 @@
 #![tactic(auto)]
 
 ghost use Rattle.std.specs.Prelude.{◌≡◌, ◌≤◌, length};
-ghost use Rattle.command.specs.Command.{parse_body, as_reply, TryFromIs, DataIs};
+ghost use Rattle.basis.specs.Refusal.{as_reply};
+ghost use Rattle.command.specs.Command.{parse_body, TryFromIs, DataIs};
 
 mod body;
 mod owned;
 
-use body::ParseLengths;
-use class::{Class, FromByte, Reading};
-pub use owned::{Command, Extended, Extending, Owned};
+use basis::Refusal;
+use class::{Class, Reading};
+pub use owned::{Command, Extended};
 
 // A command as numbers: its header, where its data start and how many bytes they are, its expected length, and whether
 // its lengths are extended.
@@ -27,46 +28,29 @@ pub struct CommandView {
     pub extended: bool,
 }
 
-// A command that was read, or the refusal: 1, 3, 4, 5, and in the standard reading 21 (rules 1.1, 1.3 to 1.5 and 1.21).
-#[derive(Clone, Copy)]
-pub enum Parsed {
-    View(CommandView),
-    Refused(u8),
-}
-
-// Reads a command of at least four bytes and of this class. Instruction, P1 and P2 are any bytes, and the body is the
-// part of the command that starts after byte four (rules 2.1, 2.2 and 12.7).
-fn parse_body(reading: Reading, apdu: &[u8], class: Class) -> Parsed
-    requires { 4 ≤ length apdu.now }
-    ensures { as_reply result ≡ parse_body reading apdu.now class }
-{
-    match body::parse_lengths(reading, &apdu[4..]) {
-        ParseLengths::Refused(k) => Parsed::Refused(k),
-        ParseLengths::Lengths(lengths) => Parsed::View(CommandView {
+impl CommandView {
+    // Reads a command: 1 if it has under four bytes, 3 for the class byte 0xFF, else by its body, which may be refused
+    // with 4, 5, and in the standard reading 21 (rules 1.1, 1.3 to 1.5 and 1.21). Instruction, P1 and P2 are any bytes,
+    // and the body is the part of the command that starts after byte four (rules 2.1, 2.2 and 12.7).
+    #[tactic(auto, unfolding(crate::specs::Command::parse))]
+    pub fn try_from(reading: Reading, apdu: &[u8]) -> Result<CommandView, Refusal>
+        ensures { TryFromIs reading apdu.now result }
+    {
+        let [cla, instruction, p1, p2, body @ ..] = apdu else {
+            return Err(Refusal::CommandTooShort);
+        };
+        let class = Class::from_byte(*cla)?;
+        let lengths = body::parse_lengths(reading, body)?;
+        Ok(CommandView {
             class,
-            instruction: apdu[1],
-            p1: apdu[2],
-            p2: apdu[3],
+            instruction: *instruction,
+            p1: *p1,
+            p2: *p2,
             at: 4 + lengths.offset,
             len: lengths.lc,
             le: lengths.le,
             extended: lengths.extended,
-        }),
-    }
-}
-
-impl CommandView {
-    // Reads a command: 1 if it has under four bytes, 3 for the class byte 0xFF, else by its body (rules 1.1 and 1.3).
-    pub fn try_from(reading: Reading, apdu: &[u8]) -> Parsed
-        ensures { TryFromIs reading apdu.now result }
-    {
-        if apdu.len() < 4 {
-            return Parsed::Refused(1);
-        }
-        match Class::from_byte(apdu[0]) {
-            FromByte::Refused(k) => Parsed::Refused(k),
-            FromByte::Class(class) => parse_body(reading, apdu, class),
-        }
+        })
     }
 }
 
@@ -75,7 +59,7 @@ pub fn data<'a>(reading: Reading, apdu: &'a [u8]) -> &'a [u8]
     ensures { DataIs reading apdu.now result.now }
 {
     match CommandView::try_from(reading, apdu) {
-        Parsed::Refused(_) => &apdu[..0],
-        Parsed::View(view) => byte_slices::part(apdu, view.at, view.len),
+        Ok(view) => byte_slices::part(apdu, view.at, view.len),
+        Err(_) => &[],
     }
 }

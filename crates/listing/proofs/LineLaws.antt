@@ -1,5 +1,5 @@
 -- Laws of the lines of commands and records. Rules 10.3 to 10.8.
-use Prim.Native.Nat.{ℕ, ◌+◌, ◌-◌, ◌/◌, ◌≤◌, ◌<◌}
+use Prim.Native.Nat.{ℕ, suc, ◌+◌, ◌-◌, ◌/◌, ◌≤◌, ◌<◌}
 use mathlib.Core.Path.{◌≡◌, refl, sym, ap, ◌∙◌}
 use mathlib.Core.Bool.{true, false, cond}
 use mathlib.Core.List.{List, [], ◌∷◌, ◌++◌}
@@ -123,11 +123,11 @@ module _ (x : Section) (k : ℕ) (s : List ℕ) (at left : ℕ) where
   unfolding items_text
   items_text_none e = rw (items_none (drop at s) left e)
 
-  pub items_text_next : (n : ℕ) → n ≡ pair (drop at s) → (left ≡ 0 → ⊥)
+  pub items_text_next : (n : ℕ) → n ≡ pair (drop at s) → (rest : ℕ) → left ≡ suc rest
       → items_text x k (items left (drop at s))
-      ≡ item_text x k (take (at + 2 + n - (at + 2)) (drop (at + 2) s)) ++ items_text x (k + 1) (items (left - 1) (drop (at + 2 + n) s))
+      ≡ item_text x k (take (at + 2 + n - (at + 2)) (drop (at + 2) s)) ++ items_text x (k + 1) (items rest (drop (at + 2 + n) s))
   unfolding items_text
-  items_text_next n e h = rw (items_next s at n e left h)
+  items_text_next n e rest h = rw (items_next s at n e left rest h)
 
 -- a section at a place: its count n, and its items
 pub section_text_is : (x : Section) (s : List ℕ) (at n : ℕ) → n ≡ pair (drop at s)

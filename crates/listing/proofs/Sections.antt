@@ -29,17 +29,14 @@ module _ (s : List ℕ) (at n : ℕ) (e : n ≡ pair (drop at s)) where
   after_item : drop (2 + pair (drop at s)) (drop at s) ≡ drop (at + 2 + n) s
   after_item = rw e (drop-drop (2 + pair (drop at s)) at s ∙ ap (λ (i : ℕ). drop i s) (sym (add_assoc at 2 (pair (drop at s)))))
 
-  pub size_next : (left : ℕ) → (left ≡ 0 → ⊥) → at + items_size left (drop at s) ≡ at + 2 + n + items_size (left - 1) (drop (at + 2 + n) s)
-  unfolding items_size
-  size_next zero h = absurd (h refl)
-  size_next (suc left) h = let z : suc left - 1 ≡ left = omega arith in rw (after_item, z) (omega arith)
+  module _ (left rest : ℕ) (h : left ≡ suc rest) where
+    pub size_next : at + items_size left (drop at s) ≡ at + 2 + n + items_size rest (drop (at + 2 + n) s)
+    unfolding items_size
+    size_next = rw (h, after_item) (omega arith)
 
-  pub items_next : (left : ℕ) → (left ≡ 0 → ⊥)
-      → items left (drop at s) ≡ take (at + 2 + n - (at + 2)) (drop (at + 2) s) ∷ items (left - 1) (drop (at + 2 + n) s)
-  unfolding items
-  items_next zero h = absurd (h refl)
-  items_next (suc left) h =
-      let z : suc left - 1 ≡ left = omega arith in rw (after_item, z, add-sub_cancel_left (at + 2) n, e, drop-drop 2 at s)
+    pub items_next : items left (drop at s) ≡ take (at + 2 + n - (at + 2)) (drop (at + 2) s) ∷ items rest (drop (at + 2 + n) s)
+    unfolding items
+    items_next = rw (h, after_item, add-sub_cancel_left (at + 2) n, e, drop-drop 2 at s)
 
 -- a section at a place: its count n, its items, of which there are as many as the count says, and its size
 module _ (s : List ℕ) (at n : ℕ) (e : n ≡ pair (drop at s)) where

@@ -3,11 +3,11 @@ ghost use Rattle.std.specs.Prelude.{◌≡◌, ◌+◌, ◌≤◌, ◌<◌, leng
 ghost use Rattle.listing.specs.Input.{items, items_size, items_at, section_size};
 ghost use Rattle.listing.specs.Text.{Puts, line_numbers, command_line, object_line, object_lines, item_text, items_text, head_line, section_text};
 
-use crate::input::{byte_number, pair_at};
+use crate::input::pair_at;
 use crate::text::fill;
 use class::Reading;
-use command::{CommandView, Parsed};
-use tlv::{TakeDataObject, take_data_object};
+use command::CommandView;
+use tlv::{Stop, take_data_object};
 
 // What the items of a section are.
 #[derive(Clone, Copy)]
@@ -20,13 +20,12 @@ pub enum Section {
 fn line_numbers(k: usize, view: CommandView) -> [usize; 7]
     ensures { result ≡ line_numbers k view }
 {
-    let class = view.class;
     [
         k,
-        byte_number(class.into_inner()),
-        byte_number(view.instruction),
-        byte_number(view.p1),
-        byte_number(view.p2),
+        usize::from(view.class.into_inner()),
+        usize::from(view.instruction),
+        usize::from(view.p1),
+        usize::from(view.p2),
         view.len,
         view.le,
     ]
@@ -38,8 +37,11 @@ fn command_line(out: &mut [u8], at: usize, k: usize, apdu: &[u8]) -> usize
     ensures { Puts (command_line k apdu.now) at out.old result out.new }
 {
     match CommandView::try_from(Reading::Crate, apdu) {
-        Parsed::Refused(r) => fill(out, at, b"% refused %\n", &[k, byte_number(r)]),
-        Parsed::View(view) => {
+        Err(refusal) => {
+            let number = usize::from(refusal.number());
+            fill(out, at, b"% refused %\n", &[k, number])
+        }
+        Ok(view) => {
             let numbers = line_numbers(k, view);
             if view.extended {
                 return fill(out, at, b"% # # # # lc % le % extended\n", &numbers);
@@ -73,17 +75,26 @@ fn put_objects(out: &mut [u8], start: usize, k: usize, record: &[u8]) -> usize
     let mut place = start;
     let mut at = 0;
     let mut j = 1;
+    // Stays: an object is counted only once it is read, so no range gives j.
     loop {
         match take_data_object(tlv::Reading::Crate, record, at) {
-            TakeDataObject::End(_) => {
-                return place;
+            Ok(object) => {
+                place = object_line(out, place, k, j, object.tag, object.len);
+                at = object.at + object.len;
             }
-            TakeDataObject::Unreadable(n) => {
-                return fill(out, place, b"%.% refused % at %\n", &[k, j, 12, n]);
-            }
-            TakeDataObject::Object(_, tag, value, len) => {
-                place = object_line(out, place, k, j, tag, len);
-                at = value + len;
+            Err(halt) => {
+                return match halt.stop {
+                    Stop::End => place,
+                    Stop::Unreadable => {
+                        let number = usize::from(halt.stop.number());
+                        fill(
+                            out,
+                            place,
+                            b"%.% refused % at %\n",
+                            &[k, j, number, halt.place],
+                        )
+                    }
+                };
             }
         }
         j += 1;
@@ -116,15 +127,11 @@ fn put_items(
 {
     let mut place = start;
     let mut at = from;
-    let mut k = 1;
-    let mut left = count;
-    while left != 0 {
+    for k in 1..=count {
         let body = at + 2;
         let end = body + pair_at(input, at);
         place = put_item(out, place, section, k, &input[body..end]);
         at = end;
-        k += 1;
-        left -= 1;
     }
     place
 }

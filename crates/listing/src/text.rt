@@ -1,5 +1,6 @@
 // Text written into a lent buffer from a place. Each function returns the place after what it wrote.
-ghost use Rattle.std.specs.Prelude.{◌≡◌, [], ◌∷◌, ◌+◌, ◌≤◌, ◌<◌, length, get_or};
+// Stays: a struct of the buffer and the place, lent to each function, was measured to be slower.
+ghost use Rattle.std.specs.Prelude.{◌≡◌, [], ◌∷◌, ◌+◌, ◌≤◌, ◌<◌, length, drop};
 ghost use Rattle.listing.specs.Text.{Puts, decimal, hex_digit, hex, takes_number, form_text, filled};
 
 // Writes one character.
@@ -12,14 +13,15 @@ fn put_byte(out: &mut [u8], at: usize, b: u8) -> usize
 }
 
 // The character of a digit below 16: 0 to 9, A to F (rule 10.9).
+#[tactic(auto, unfolding(crate::specs::Text::hex_digit))]
 fn hex_digit(d: usize) -> u8
     requires { d < 16 }
     ensures { result ≡ hex_digit d }
 {
-    if d < 10 {
-        return 48 + d as u8;
+    match d {
+        0..=9 => b'0' + d as u8,
+        _ => b'A' - 10 + d as u8,
     }
-    55 + d as u8
 }
 
 // Writes a number in decimal digits (rule 10.9).
@@ -43,56 +45,41 @@ fn put_hex(out: &mut [u8], at: usize, n: usize) -> usize
     put_byte(out, end, hex_digit(n % 16))
 }
 
-// How many numbers a character of a form takes: 1 for % and #, else 0.
-fn takes_number(c: u8) -> usize
-    ensures { (result ≡ takes_number c) × (result ≤ 1) }
-{
-    if c == b'%' {
-        return 1;
-    }
-    if c == b'#' {
-        return 1;
-    }
-    0
-}
-
 // Writes what a character of a form stands for: % a number in decimal digits, # a byte in hexadecimal ones, else
 // itself.
+#[tactic(auto, unfolding(crate::specs::Text::form_text, crate::specs::Text::hex))]
 fn put_form_text(out: &mut [u8], at: usize, c: u8, n: usize) -> usize
     requires { at + length (form_text c n) ≤ length out.old }
     ensures { Puts (form_text c n) at out.old result out.new }
 {
-    if c == b'%' {
-        return put_decimal(out, at, n);
+    match c {
+        b'%' => put_decimal(out, at, n),
+        b'#' => put_hex(out, at, n),
+        _ => put_byte(out, at, c),
     }
-    if c == b'#' {
-        return put_hex(out, at, n);
-    }
-    put_byte(out, at, c)
 }
 
-// The number at a place, 0 past the end.
-fn number_at(numbers: &[usize], i: usize) -> usize
-    ensures { result ≡ get_or numbers.now i 0 }
+// The numbers that are left after a character of a form: % and # take one.
+#[tactic(auto, unfolding(crate::specs::Text::takes_number))]
+fn numbers_after<'a>(c: u8, numbers: &'a [usize]) -> &'a [usize]
+    ensures { result.now ≡ drop (takes_number c) numbers.now }
 {
-    if i < numbers.len() {
-        return numbers[i];
+    match c {
+        b'%' | b'#' => numbers.get(1..).unwrap_or(&[]),
+        _ => numbers,
     }
-    0
 }
 
-// Writes a form with its numbers filled in from the left.
+// Writes a form with its numbers filled in from the left. A number that is missing counts as 0.
 pub(crate) fn fill(out: &mut [u8], at: usize, form: &[u8], numbers: &[usize]) -> usize
     requires { at + length (filled form.now numbers.now) ≤ length out.old }
     ensures { Puts (filled form.now numbers.now) at out.old result out.new }
 {
     let mut place = at;
-    let mut i = 0;
-    let mut j = 0;
-    while i < form.len() {
-        place = put_form_text(out, place, form[i], number_at(numbers, j));
-        j += takes_number(form[i]);
-        i += 1;
+    let mut left = numbers;
+    for &c in form {
+        place = put_form_text(out, place, c, left.first().copied().unwrap_or(0));
+        left = numbers_after(c, left);
     }
     place
 }

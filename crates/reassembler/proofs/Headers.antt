@@ -1,7 +1,7 @@
 -- Whether a piece continues a chain (rule 5.2), and whether it is the last.
 use mathlib.Core.Path.{◌≡◌, sym, ◌∙◌}
-use mathlib.Core.Bool.{Bool, true, false}
-use borrow.Author.Tests.{eq-eqb, ne_eqb, eqb-true}
+use mathlib.Core.Bool.{Bool, true}
+use borrow.Author.Tests.{eq-eqb, eqb-true}
 use lib.Dec.{eqb}
 use Rattle.basis.proofs.Truth.{both_true}
 use Rattle.class.specs.Chain.{chaining_bit, chained, ChainIs, NotTheLastIs}
@@ -11,35 +11,6 @@ use Rattle.class.proofs.Bits.{not_the_last_bit}
 use Rattle.command.specs.declared.CommandView.{CommandView}
 use Rattle.reassembler.specs.Join.{same_class, continues_open, SameHeader}
 use Rattle.reassembler.specs.declared.OpenChain.{OpenChain}
-
--- classes are compared by their bytes with bit 0x10 set
-pub same_class_lem : (c d x y : Class) → x ≡ record { cla = chained c.cla } → y ≡ record { cla = chained d.cla }
-    → eqb x.cla y.cla ≡ same_class c d
-unfolding same_class
-same_class_lem c d x y e f = rw (e, f)
-
--- a header, field after field
-module _ (h : OpenChain) (v : CommandView) where
-  pub not_class : same_class h.class v.class ≡ false → false ≡ continues_open h v
-  unfolding continues_open
-  not_class e = rw e
-
-  module _ (class : same_class h.class v.class ≡ true) where
-    pub not_instruction : (h.instruction ≡ v.instruction → ⊥) → false ≡ continues_open h v
-    unfolding continues_open
-    not_instruction e = rw (class, ne_eqb h.instruction v.instruction e)
-
-    module _ (instruction : h.instruction ≡ v.instruction) where
-      pub not_p1 : (h.p1 ≡ v.p1 → ⊥) → false ≡ continues_open h v
-      unfolding continues_open
-      not_p1 e = rw (class, eq-eqb h.instruction v.instruction instruction, ne_eqb h.p1 v.p1 e)
-
-      pub by_p2 : h.p1 ≡ v.p1 → eqb h.p2 v.p2 ≡ continues_open h v
-      unfolding continues_open
-      by_p2 e = rw (class, eq-eqb h.instruction v.instruction instruction, eq-eqb h.p1 v.p1 e)
-
-      pub continues_is : h.p1 ≡ v.p1 → h.p2 ≡ v.p2 → continues_open h v ≡ true
-      continues_is e f = sym (by_p2 e) ∙ eq-eqb h.p2 v.p2 f
 
 -- classes that differ in bit 0x10 alone
 pub same_class_is : (c d : Class) → chained c.cla ≡ chained d.cla → same_class c d ≡ true
@@ -63,6 +34,12 @@ continues_same h v e =
       p1 = eqb-true h.p1 v.p1 p.0;
       p2 = eqb-true h.p2 v.p2 p.1;
     }
+
+pub continues_is : (h : OpenChain) (v : CommandView) → same_class h.class v.class ≡ true → h.instruction ≡ v.instruction
+    → h.p1 ≡ v.p1 → h.p2 ≡ v.p2 → continues_open h v ≡ true
+unfolding continues_open
+continues_is h v class instruction p1 p2 =
+    rw (class, eq-eqb h.instruction v.instruction instruction, eq-eqb h.p1 v.p1 p1, eq-eqb h.p2 v.p2 p2)
 
 pub same_continues : (h : OpenChain) (v : CommandView) → SameHeader h v → continues_open h v ≡ true
 same_continues h v s = continues_is h v (same_class_is h.class v.class s.class) s.instruction s.p1 s.p2

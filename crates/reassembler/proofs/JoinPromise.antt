@@ -1,44 +1,29 @@
 -- What the code did with a piece is what the promise of `join` says.
 use Prim.Native.Nat.{ℕ}
-use mathlib.Core.Path.{◌≡◌, sym, ap, ◌∙◌}
+use mathlib.Core.Path.{◌≡◌, refl, sym, ap, ◌∙◌}
 use mathlib.Core.Bool.{true, false}
 use mathlib.Core.List.{List}
-use lib.Dec.{eqb}
 use lib.ListN.{length}
 use Rattle.basis.specs.Reply.{Reply, ok, refused, status}
+use Rattle.std.specs.Prelude.{Ok, Err}
+use Rattle.basis.specs.Refusal.{refusal_number, as_reply}
+use Rattle.basis.specs.declared.refusal.Refusal.{Refusal}
+use Rattle.basis.specs.declared.refusal.Refusal.TheVariants.{OtherChain}
 use Rattle.basis.proofs.Reply.{refused_not_ok}
-use Rattle.class.specs.Chain.{chaining_bit}
-use Rattle.class.specs.declared.Reading.TheVariants.{Crate}
-use Rattle.command.specs.Command.{parse, data_in}
-use Rattle.command.specs.Owned.{taken_of, extend_of, extending_as_reply, done, held_after, extended_room, ExtendFromCommandViewIs}
+use Rattle.command.specs.Owned.{taken_of, extend_of, done, held_after, extended_room, ExtendFromCommandViewIs}
 use Rattle.command.specs.declared.CommandView.{CommandView}
 use Rattle.command.specs.declared.owned.Command.{Command}
 use Rattle.command.specs.declared.owned.Extended.{Extended}
-use Rattle.command.specs.declared.owned.Extending.TheVariants as extending
-use Rattle.reassembler.specs.Join.{continues, held_len, extended_in, command_in, length_of, chain_after, answer_of, state_of, taken_in, view_in, join_of, Says, Joins, JoinIs}
+use Rattle.reassembler.specs.Join.{continues, held_len, extended_in, command_in, length_of, answer_of, state_of, taken_in, view_in, Says, Joins}
 use Rattle.reassembler.specs.declared.Reassembler.{Reassembler}
-use Rattle.reassembler.specs.declared.Reassembler.TheVariants.{Closed, Open}
-use Rattle.reassembler.specs.declared.Joining.TheVariants as joining
 use Rattle.reassembler.specs.declared.Joined.{Joined}
-
--- a piece whose data are joined: bit 0x10 is set, or clear
-module _ (v : CommandView) (c : Command) where
-  pub says_more : eqb (chaining_bit v.class.cla) 1 ≡ true
-      → Says (ok (answer_of v c)) (state_of v c.len) (record { answer = joining.More; state = Open (chain_after v c.len) })
-  unfolding answer_of state_of
-  says_more e = record { reply = rw e; state = rw e }
-
-  pub says_command : eqb (chaining_bit v.class.cla) 1 ≡ false
-      → Says (ok (answer_of v c)) (state_of v c.len) (record { answer = joining.Command c; state = Closed })
-  unfolding answer_of state_of
-  says_command e = record { reply = rw e; state = rw e }
 
 -- a piece that was parsed as v, with data d
 module _ (r : Reassembler) (v : CommandView) (d room : List ℕ) where
   -- it does not continue the chain
-  pub not_continued : (x : Joined) (k : ℕ) → continues r v ≡ false → Says (refused k) r x → k ≡ 17 → Joins (view_in r room v d) x room
+  pub not_continued : continues r v ≡ false → Joins (view_in r room v d) (record { answer = Err OtherChain; state = r }) room
   unfolding length_of
-  not_continued x k e s n = record { says = rw (e, ← n) s; buffer = rw e }
+  not_continued e = record { says = record { reply = rw e; state = rw e }; buffer = rw e }
 
   -- it continues the chain: by what `extend_of` says of the data held and its own
   module _ (x : Joined) (after : List ℕ) where
@@ -65,8 +50,10 @@ module _ (r : Reassembler) (v : CommandView) (d room : List ℕ) where
       extended_as : ExtendFromCommandViewIs (command_in r v (held_len r)) v d room y after
       extended_as = rw b at e
 
-      pub not_extended : (k : ℕ) → y.answer ≡ extending.Refused k → Says (refused k) r x → Joins (view_in r room v d) x after
-      not_extended k g s = when_continued (by_refused z k (sym extended_as.reply ∙ ap extending_as_reply g) s extended_as.buffer)
+      pub not_extended : (k : Refusal) → y.answer ≡ Err k → x ≡ record { answer = Err k; state = r } → Joins (view_in r room v d) x after
+      not_extended k g f =
+          let says : Says (refused (refusal_number k)) r x = rw f (record { reply = refl; state = refl }) in
+          when_continued (by_refused z (refusal_number k) (sym extended_as.reply ∙ ap as_reply g) says extended_as.buffer)
 
       -- the extended command, with the flag of the command before
       abbrev with_flag : Command
@@ -79,16 +66,5 @@ module _ (r : Reassembler) (v : CommandView) (d room : List ℕ) where
           let t = extended_as.command i in
           record { class = t.class; instruction = t.instruction; p1 = t.p1; p2 = t.p2; len = t.len; le = t.le; extended = (b i).extended }
 
-      pub data_joined : y.answer ≡ extending.Done → Says (ok (answer_of v with_flag)) (state_of v with_flag.len) x → Joins (view_in r room v d) x after
-      data_joined g s = when_continued (by_taken z with_flag (sym extended_as.reply ∙ ap extending_as_reply g) with_flag_is s extended_as.buffer)
-
--- any piece: the parser refuses it, or reads it
-module _ (r : Reassembler) (s room : List ℕ) where
-  pub not_parsed : (k : ℕ) (x : Joined) → parse Crate s ≡ refused k → Says (refused k) r x → JoinIs r s room x room
-  unfolding join_of
-  not_parsed k x e f = record { says = rw e f; buffer = rw e }
-
-  pub parsed : (v : CommandView) (d : List ℕ) (x : Joined) (after : List ℕ) → parse Crate s ≡ ok v → d ≡ data_in s (ok v)
-      → Joins (view_in r room v d) x after → JoinIs r s room x after
-  unfolding join_of
-  parsed v d x after e f j = rw e (rw f at j)
+      pub data_joined : y.answer ≡ Ok tt → Says (ok (answer_of v with_flag)) (state_of v with_flag.len) x → Joins (view_in r room v d) x after
+      data_joined g s = when_continued (by_taken z with_flag (sym extended_as.reply ∙ ap as_reply g) with_flag_is s extended_as.buffer)

@@ -17,10 +17,9 @@ use Rattle.command.specs.Command.{parse, data_in}
 use Rattle.command.specs.Owned.{extend_of}
 use Rattle.command.specs.declared.CommandView.{CommandView}
 use Rattle.command.proofs.Rooms.{extend_ok, extend_refused}
-use Rattle.reassembler.specs.Join.{continues_open, SameHeader, continues, held_len, extended_in, command_in, length_of, chain_after, answer_of, state_of, Outcome, refused_of, taken_in, parsed_in, join_of}
+use Rattle.reassembler.specs.Join.{open_with, closed, continues_open, SameHeader, continues, held_len, extended_in, command_in, length_of, chain_after, answer_of, state_of, Outcome, refused_of, taken_in, parsed_in, join_of}
 use Rattle.reassembler.specs.declared.OpenChain.{OpenChain}
 use Rattle.reassembler.specs.declared.Reassembler.{Reassembler}
-use Rattle.reassembler.specs.declared.Reassembler.TheVariants.{Closed, Open}
 use Rattle.reassembler.proofs.Headers.{continues_same, same_continues}
 
 -- a piece that is parsed and continues the chain
@@ -44,7 +43,7 @@ module _ (r : Reassembler) (room s : List ℕ) (v : CommandView) (d : List ℕ) 
         ≡ record {
           reply = ok none;
           state =
-              Open (record { class = v.class; instruction = v.instruction; p1 = v.p1; p2 = v.p2; len = held_len r + length d });
+              open_with (record { class = v.class; instruction = v.instruction; p1 = v.p1; p2 = v.p2; len = held_len r + length d });
           room = over_at (held_len r) d room;
         }
     unfolding answer_of state_of
@@ -65,7 +64,7 @@ module _ (r : Reassembler) (room s : List ℕ) (v : CommandView) (d : List ℕ) 
                 le = v.le;
                 extended = extended_in r v;
               }));
-          state = Closed;
+          state = closed;
           room = over_at (held_len r) d room;
         }
     unfolding answer_of state_of
@@ -79,26 +78,26 @@ header_from h v class instruction p1 p2 = omega arith
 
 -- 17: a piece that is parsed is refused with 17 exactly if a chain is open and the piece has not its header (rule 1.17)
 module _ (h : OpenChain) (room s : List ℕ) (v : CommandView) (read : parse Crate s ≡ ok v) where
-  not_continued : (x : Bool) → continues_open h v ≡ x → (x ≡ true → ⊥) → join_of (Open h) room s ≡ refused_of (Open h) room 17
+  not_continued : (x : Bool) → continues_open h v ≡ x → (x ≡ true → ⊥) → join_of (open_with h) room s ≡ refused_of (open_with h) room 17
   unfolding join_of length_of
   not_continued true e f = absurd (f refl)
   not_continued false e f = rw (read, e)
 
-  pub other_header : (SameHeader h v → ⊥) → join_of (Open h) room s ≡ record { reply = refused 17; state = Open h; room = room }
+  pub other_header : (SameHeader h v → ⊥) → join_of (open_with h) room s ≡ record { reply = refused 17; state = open_with h; room = room }
   other_header f = not_continued (continues_open h v) refl (λ e. f (continues_same h v e))
 
-  by_room : SameHeader h v → (x : Bool) → leb (h.len + length (data_in s (ok v))) (length room) ≡ x → (join_of (Open h) room s).reply ≡ refused 17 → ⊥
+  by_room : SameHeader h v → (x : Bool) → leb (h.len + length (data_in s (ok v))) (length room) ≡ x → (join_of (open_with h) room s).reply ≡ refused 17 → ⊥
   by_room t true q e =
       let d = data_in s (ok v) in
-      let g = accepted (Open h) room s v d read (ap (data_in s) read) (same_continues h v t) (leb-true (h.len + length d) (length room) q) in
-      refused_not_ok 17 (answer_of v (command_in (Open h) v (h.len + length d))) (sym e ∙ ap (λ (o : Outcome). o.reply) g)
+      let g = accepted (open_with h) room s v d read (ap (data_in s) read) (same_continues h v t) (leb-true (h.len + length d) (length room) q) in
+      refused_not_ok 17 (answer_of v (command_in (open_with h) v (h.len + length d))) (sym e ∙ ap (λ (o : Outcome). o.reply) g)
   by_room t false q e =
       let d = data_in s (ok v) in
-      let g = step_no_room (Open h) room s v d read (ap (data_in s) read) (same_continues h v t) (leb-false (h.len + length d) (length room) q) in
+      let g = step_no_room (open_with h) room s v d read (ap (data_in s) read) (same_continues h v t) (leb-false (h.len + length d) (length room) q) in
       let k : ◌≡◌ {A = ℕ} 17 18 = ap status (sym e ∙ ap (λ (o : Outcome). o.reply) g) in
       omega arith
 
-  pub same_header : SameHeader h v → (join_of (Open h) room s).reply ≡ refused 17 → ⊥
+  pub same_header : SameHeader h v → (join_of (open_with h) room s).reply ≡ refused 17 → ⊥
   same_header t e = by_room t (leb (h.len + length (data_in s (ok v))) (length room)) refl e
 
 -- the chain after a piece that leaves it open has the header of the pieces before it

@@ -1,8 +1,12 @@
 -- Pieces joined in a lent room: the reply to each piece, the state after it and the room after it. Rules 5.1 to 5.9,
--- 1.17 and 1.18. The state of a reassembler is Closed (no chain is open) or Open, with the chain's header and length.
-use Rattle.std.specs.Prelude.{ℕ, ◌≡◌, Bool, true, false, cond, List, eqb, length, take}
+-- 1.17 and 1.18. The state of a reassembler is the open chain, with its header and length, or none.
+use Rattle.std.specs.Prelude.{ℕ, ◌≡◌, Bool, true, false, cond, List, eqb, length, take, Some, None, Result, Ok, Err}
+use Rattle.std.specs.Prelude as std
+use Rattle.std.specs.Option.{option_map_or}
 use Rattle.std.proofs.Math.Option.{Option, none, some}
 use Rattle.basis.specs.Reply.{Reply, ok, refused}
+use Rattle.basis.specs.Refusal.{refusal_number, as_option}
+use Rattle.basis.specs.declared.refusal.Refusal.{Refusal}
 use Rattle.basis.specs.Over.{over_at}
 use Rattle.class.specs.Chain.{chaining_bit, chained}
 use Rattle.class.specs.declared.Class.{Class}
@@ -13,10 +17,15 @@ use Rattle.command.specs.declared.CommandView.{CommandView}
 use Rattle.command.specs.declared.owned.Command.{Command}
 use Rattle.reassembler.specs.declared.OpenChain.{OpenChain}
 use Rattle.reassembler.specs.declared.Reassembler.{Reassembler}
-use Rattle.reassembler.specs.declared.Reassembler.TheVariants.{Closed, Open}
-use Rattle.reassembler.specs.declared.Joining.{Joining}
-use Rattle.reassembler.specs.declared.Joining.TheVariants as joining
 use Rattle.reassembler.specs.declared.Joined.{Joined}
+
+-- no chain is open
+abbrev pub closed : Reassembler
+closed = record { «open» = None }
+
+-- this chain is open
+abbrev pub open_with : OpenChain → Reassembler
+open_with h = record { «open» = Some h }
 
 -- two classes are the same apart from bit 0x10: with the bit set in both they are equal (rule 5.2)
 unfoldable pub same_class : Class → Class → Bool
@@ -37,18 +46,15 @@ pub record SameHeader (h : OpenChain) (v : CommandView) : Type 0 where
 
 -- a piece may be joined in this state: any piece if no chain is open (rule 5.2)
 abbrev pub continues : Reassembler → CommandView → Bool
-continues Closed v = true
-continues (Open h) v = continues_open h v
+continues r v = option_map_or (λ h. continues_open h v) r.«open» true
 
 -- how many bytes of the room are held: none if no chain is open, so the next piece starts at the beginning (rule 5.5)
 abbrev pub held_len : Reassembler → ℕ
-held_len Closed = 0
-held_len (Open h) = h.len
+held_len r = option_map_or (λ h. h.len) r.«open» 0
 
 -- extended is the piece's own flag for a single piece, true for several (rule 5.6)
 abbrev pub extended_in : Reassembler → CommandView → Bool
-extended_in Closed v = v.extended
-extended_in (Open h) v = true
+extended_in r v = option_map_or (λ h. true) r.«open» v.extended
 
 -- the command with n joined bytes: header and Le are this piece's (rule 5.5)
 abbrev pub command_in : Reassembler → CommandView → ℕ → Command
@@ -68,7 +74,7 @@ answer_of v c = cond (eqb (chaining_bit v.class.cla) 1) none (some c)
 
 -- the state, when the data are joined. Bit 0x10 set: the chain is open (rule 5.4). Clear: it is closed (rule 5.5)
 unfoldable pub state_of : CommandView → ℕ → Reassembler
-state_of v n = cond (eqb (chaining_bit v.class.cla) 1) (Open (chain_after v n)) Closed
+state_of v n = cond (eqb (chaining_bit v.class.cla) 1) (open_with (chain_after v n)) closed
 
 -- what a piece comes to: the reply, and the state and the room after it
 pub record Outcome : Type 0 where
@@ -99,10 +105,9 @@ unfoldable pub join_of : Reassembler → List ℕ → List ℕ → Outcome
 join_of r room s = parsed_in r room s (parse Crate s)
 
 -- the answer of the code as a reply: `none` stands for more
-abbrev pub as_reply : Joining → Reply (Option Command)
-as_reply joining.More = ok none
-as_reply (joining.Command c) = ok (some c)
-as_reply (joining.Refused k) = refused k
+abbrev pub as_reply : Result (std.Option Command) Refusal → Reply (Option Command)
+as_reply (Ok x) = ok (as_option x)
+as_reply (Err k) = refused (refusal_number k)
 
 -- an answer and a state that have this reply and this state
 pub record Says (y : Reply (Option Command)) (r : Reassembler) (x : Joined) : Type 0 where
@@ -118,9 +123,14 @@ pub record Joins (o : Outcome) (x : Joined) (after : List ℕ) : Type 0 where
 abbrev pub JoinIs : Reassembler → List ℕ → List ℕ → Joined → List ℕ → Type 0
 JoinIs r s room x after = Joins (join_of r room s) x after
 
+-- the answer and the state after a piece, if a refusal leaves the state as it was
+abbrev pub or_unchanged : Reassembler → Result Joined Refusal → Joined
+or_unchanged r (Ok x) = x
+or_unchanged r (Err k) = record { answer = Err k; state = r }
+
 -- the promises of `new` and `reset`: no chain is open (rule 5.8)
 abbrev pub ClosedIs : Reassembler → Type 0
-ClosedIs x = x ≡ Closed
+ClosedIs x = x ≡ closed
 
 -- the promise of `data`: the joined data are the front of the room, as long as the command says (rule 5.9)
 abbrev pub DataIs : Command → List ℕ → List ℕ → Type 0

@@ -1,13 +1,14 @@
 -- Laws of what the exported functions leave in the lent slices.
-use Prim.Native.Nat.{ℕ, ◌+◌, ◌-◌, ◌≤◌, ◌<◌}
+use Prim.Native.Nat.{ℕ, ◌+◌, ◌-◌, ◌≤◌}
 use mathlib.Core.Path.{◌≡◌, refl, sym, ap, ◌∙◌, subst}
 use mathlib.Core.Bool.{Bool, true, false, cond}
 use mathlib.Core.List.{List, [], ◌∷◌, ◌++◌, append-nil}
-use borrow.Author.Tests.{lt-ltb, le-ltb, ltb-false}
+use borrow.Author.Tests.{le-ltb, ltb-false}
 use native.Mathlib.Omega.{arith}
 use lib.Dec.{ltb}
 use lib.ListN.{length, take, drop, length-drop, drop_of_length-le}
 use lib.Seq.{take-length}
+use Rattle.std.specs.Prelude.{Option, Some, None}
 use Rattle.basis.specs.Reply.{Reply, ok, refused, status}
 use Rattle.basis.specs.Over.{over, over_at}
 use Rattle.basis.proofs.Over.{rest_is, length_over_at, next_over, length_over}
@@ -15,15 +16,13 @@ use Rattle.class.specs.declared.Reading.TheVariants.{Crate}
 use Rattle.command.specs.Command.{parse, data_in}
 use Rattle.command.specs.Owned.{extend_of}
 use Rattle.command.specs.declared.CommandView.{CommandView}
-use Rattle.command.specs.declared.owned.Command.{Command}
 use Rattle.reassembler.specs.Join.{continues, held_len, length_of, taken_in, view_in, parsed_in, join_of, as_reply, JoinIs}
 use Rattle.reassembler.specs.declared.Reassembler.{Reassembler}
-use Rattle.reassembler.specs.declared.Reassembler.TheVariants.{Closed, Open}
+use Rattle.reassembler.specs.declared.OpenChain.{OpenChain}
 use Rattle.reassembler.specs.declared.Joined.{Joined}
-use Rattle.abi.specs.Answers.{too_short, out_after, room_after, RefusalStatusIs, usable_len, NumbersWritten, BytesCopied}
-use Rattle.abi.proofs.AnswerLaws.{refusal_fitted, refusal_written, row_status_0, row_all, after_short}
-use Rattle.abi.specs.Commands.{command_of_length}
-use Rattle.reassembler_abi.specs.Numbers.{open_chain_numbers, state_numbers, join_reply, state_met, joined_by, PieceJoined, JoinedData}
+use Rattle.abi.specs.Answers.{too_short, out_after, room_after, usable_len, NumbersWritten}
+use Rattle.abi.proofs.AnswerLaws.{row_status_0, row_all, after_short}
+use Rattle.reassembler_abi.specs.Numbers.{open_chain_numbers, state_numbers, join_reply, state_met, joined_by, PieceJoined}
 
 -- a slice that is too short for the numbers stays, and so does the room
 written_short : (x : Reply (List ℕ)) (out : List ℕ) → out ≡ out_after (too_short x) out
@@ -94,23 +93,9 @@ module _ (r : Reassembler) where
   unfolding join_of
   room_none s = none_parsed s (parse Crate s)
 
-one_anyway : (b : Bool) → ◌≡◌ {A = ℕ} 1 (cond b 1 1)
-one_anyway true = refl
-one_anyway false = refl
-
--- a piece in the state x: it is under 4 bytes; the numbers stand for no state; they do not fit; it is joined
+-- a piece of at least 4 bytes in the state x
 module _ (x : Reply Reassembler) (s room out : List ℕ) where
-  pub under_four : length s < 4 → PieceJoined (state_met s x) s room out 1 room out
-  under_four h =
-      let e = lt-ltb (length s) 4 h in
-      record { says = rw e (refusal_written 14 1 out 1 (one_anyway (ltb (length out) 14))); bytes = rw (e, refusal_fitted) }
-
   module _ (h : 4 ≤ length s) where
-    pub no_state : (k q : ℕ) → x ≡ refused k → RefusalStatusIs k (length out) 14 q → PieceJoined (state_met s x) s room out q room out
-    no_state k q f g =
-        let e = le-ltb (length s) 4 h in
-        record { says = rw (e, f) (refusal_written 14 k out q g); bytes = rw (e, f, refusal_fitted) }
-
     -- joined in the part of the room that may be written: all of it if the numbers fit, else nothing
     module _ (r : Reassembler) (f : x ≡ ok r) (n : ℕ) (ys : List ℕ) (q : ℕ) (out' : List ℕ)
         (u : n ≡ usable_len (length room) (length out) 14) where
@@ -160,10 +145,10 @@ module _ (x : Reply Reassembler) (s room out : List ℕ) where
           (subst (λ y. NumbersWritten 14 (join_reply y j.state) out q out') g.says.reply a))
 
 -- a state has six numbers
-six_numbers : (r : Reassembler) → length (state_numbers r) ≡ 6
+six_numbers : (h : Option OpenChain) → length (state_numbers (record { «open» = h })) ≡ 6
 unfolding open_chain_numbers
-six_numbers Closed = refl
-six_numbers (Open h) = refl
+six_numbers None = refl
+six_numbers (Some h) = refl
 
 -- eight numbers written, and six in the part after them
 pub row_written : (vs : List ℕ) (r : Reassembler) (out l ws ys : List ℕ) (a b : ℕ) → length vs ≡ 8 → 14 ≤ length out
@@ -171,7 +156,7 @@ pub row_written : (vs : List ℕ) (r : Reassembler) (out l ws ys : List ℕ) (a 
     → NumbersWritten (length ws) (ok ws) (take (length l - 8) (drop 8 l)) b ys
     → NumbersWritten 14 (ok (vs ++ state_numbers r)) out b (take 8 l ++ (ys ++ drop (length l - 8) (drop 8 l)))
 row_written vs r out l ws ys a b n h t e u =
-    let k : length ws ≡ 6 = ap length e ∙ six_numbers r in
+    let k : length ws ≡ 6 = ap length e ∙ six_numbers r.«open» in
     let first : l ≡ over vs out = row_all vs out a l t (omega arith) in
     let long : length l ≡ length out = rw first (length_over vs out (omega arith)) in
     let room : length ws ≤ length (take (length l - 8) (drop 8 l)) = rw rest_is (omega (arith, length-drop 8 l)) in
@@ -183,9 +168,3 @@ row_written vs r out l ws ys a b n h t e u =
           (next_over 8 out l vs ws ys first (sym n) (omega arith) (row_all ws (take (length l - 8) (drop 8 l)) b ys u room)
           ∙ ap (λ z. over (vs ++ z) out) e);
     }
-
--- the data of a command of length n, copied
-pub data_copied : (n : ℕ) (k : Command) (d room to out : List ℕ) (x : ℕ) (to' out' : List ℕ) → k ≡ command_of_length n → d ≡ take k.len room
-    → BytesCopied d to out x to' out' → JoinedData n room to out x to' out'
-data_copied n k d room to out x to' out' e f a =
-    subst (λ z. BytesCopied z to out x to' out') (f ∙ ap (λ (c : Command). take c.len room) e) a

@@ -1,29 +1,22 @@
 -- The reassembler for a host: its states and answers as numbers, and what the exported functions leave in the slices
 -- that a host lends. Rules 5.1 to 5.9, 1.16, 1.22, 1.24 and 1.25.
 use Rattle.std.specs.Prelude.{ℕ, ◌≡◌, cond, List, [], ◌∷◌, ◌++◌, eqb, ltb, length, take}
+use Rattle.std.specs.Option.{option_map_or}
 use Rattle.std.proofs.Math.Option.{Option, none, some}
 use Rattle.basis.specs.Reply.{Reply, ok, refused, then}
 use Rattle.class.specs.Class.{from_byte}
 use Rattle.command.specs.declared.owned.Command.{Command}
-use Rattle.reassembler.specs.Join.{join_of}
+use Rattle.reassembler.specs.Join.{closed, open_with, join_of}
 use Rattle.reassembler.specs.declared.OpenChain.{OpenChain}
 use Rattle.reassembler.specs.declared.Reassembler.{Reassembler}
-use Rattle.reassembler.specs.declared.Reassembler.TheVariants.{Closed, Open}
 use Rattle.abi.specs.Answers.{if_long_enough, room_after, NumbersWritten, BytesCopied}
 use Rattle.abi.specs.Commands.{command_numbers}
-use Rattle.reassembler_abi.specs.declared.Numbered.{Numbered}
-use Rattle.reassembler_abi.specs.declared.Numbered.TheVariants as numbered
 
 -- the state that six numbers stand for. First 0: no chain is open, and no other number counts. Else: an open chain with
 -- class, instruction, P1, P2 and so many bytes held. No chain has the class byte 0xFF: 3
 unfoldable pub state_by_numbers : ℕ → ℕ → ℕ → ℕ → ℕ → ℕ → Reply Reassembler
 state_by_numbers o c i p q n =
-    cond (eqb o 0) (ok Closed) (then (from_byte c) (λ k. ok (Open (record { class = k; instruction = i; p1 = p; p2 = q; len = n }))))
-
--- the answer of the code as a reply
-abbrev pub state_as_reply : Numbered → Reply Reassembler
-state_as_reply (numbered.State r) = ok r
-state_as_reply (numbered.Refused k) = refused k
+    cond (eqb o 0) (ok closed) (then (from_byte c) (λ k. ok (open_with (record { class = k; instruction = i; p1 = p; p2 = q; len = n }))))
 
 -- the state for a piece s: the smallest number is given (rule 1.22), so a piece under 4 bytes is refused with 1 before
 -- 3
@@ -36,8 +29,7 @@ open_chain_numbers h = 1 ∷ h.class.cla ∷ h.instruction ∷ h.p1 ∷ h.p2 ∷
 
 -- the numbers of a state: zeros if no chain is open
 abbrev pub state_numbers : Reassembler → List ℕ
-state_numbers Closed = 0 ∷ 0 ∷ 0 ∷ 0 ∷ 0 ∷ 0 ∷ []
-state_numbers (Open h) = open_chain_numbers h
+state_numbers r = option_map_or open_chain_numbers r.«open» (0 ∷ 0 ∷ 0 ∷ 0 ∷ 0 ∷ 0 ∷ [])
 
 -- the numbers of an answer that is a command: 1, and those of the command
 unfoldable pub command_answer_numbers : Command → List ℕ
@@ -69,8 +61,7 @@ pub record PieceJoined (x : Reply Reassembler) (s room out : List ℕ) (r : ℕ)
 
 -- the first number of a state: whether a chain is open
 abbrev pub opened_number : Reassembler → ℕ
-opened_number Closed = 0
-opened_number (Open h) = 1
+opened_number r = option_map_or (λ h. 1) r.«open» 0
 
 -- the promise of `gorvisclen_reset`: it always succeeds, and no chain is open (rule 5.8)
 abbrev pub ResetIs : ℕ → ℕ → ℕ → ℕ → ℕ → ℕ → ℕ → Type 0

@@ -1,18 +1,55 @@
 // The answer of the library, compared with the one in the file.
-use crate::input::number;
-use crate::{input, report};
+use crate::input::{byte, number};
+use crate::stdout::Stdout;
+use std::fmt;
+use std::fmt::Write;
 
-// A byte as a number.
-fn byte_number(b: u8) -> u64 {
-    b as u64
+// How an answer compares with the one in the file.
+#[derive(Clone, Copy, PartialEq, Eq)]
+pub(crate) enum Outcome {
+    Same,
+    Differs,
+    // The file ends before the end of the answer.
+    CutOff,
+}
+
+// An answer that is being compared: whether all its items so far are as expected, and its number if differences are
+// printed.
+#[derive(Clone, Copy)]
+struct Comparison {
+    same: bool,
+    shown: Option<usize>,
+}
+
+impl Comparison {
+    // Compares an item: 0 is the reply, 1 to 16 are the numbers written for the host, 17 is the checksum.
+    fn item(&mut self, print: &mut Stdout, item: usize, expected: u64, found: u64) -> fmt::Result {
+        if expected == found {
+            return Ok(());
+        }
+        self.same = false;
+        match self.shown {
+            Some(answer) => writeln!(
+                print,
+                "WRONG: answer {answer}, item {item}: expected {expected}, found {found}"
+            ),
+            None => Ok(()),
+        }
+    }
+
+    // Compares the first `count` numbers that were lent.
+    fn numbers(&mut self, print: &mut Stdout, out: &[u64; 16], count: usize) -> fmt::Result {
+        for (i, found) in out.iter().enumerate().take(count) {
+            self.item(print, 1 + i, u64::from(number()), *found)?;
+        }
+        Ok(())
+    }
 }
 
 // Fills the lent bytes before a call: each is its place modulo 251.
 pub(crate) fn fill_lent(to: &mut [u8]) {
-    let mut i = 0;
-    while i < to.len() {
-        to[i] = (i % 251) as u8;
-        i += 1;
+    for (i, b) in to.iter_mut().enumerate() {
+        *b = (i % 251) as u8;
     }
 }
 
@@ -21,73 +58,32 @@ fn mixed(sum: u64, n: u64) -> u64 {
     (sum % 0xFFFFFFFB * 65537 + n % 0x100000000 + 1) % 0xFFFFFFFB
 }
 
-// The checksum of bytes, in their order.
-fn bytes_mixed(s: &[u8]) -> u64 {
-    let mut sum = 0;
-    let mut i = 0;
-    while i < s.len() {
-        sum = mixed(sum, byte_number(s[i]));
-        i += 1;
-    }
-    sum
+// The checksum of all that was lent: of the bytes, and then of the 16 numbers, in their order.
+fn checksum(to: &[u8], out: &[u64; 16]) -> u64 {
+    let sum = to.iter().fold(0, |sum, b| mixed(sum, u64::from(*b)));
+    out.iter().fold(sum, |sum, n| mixed(sum, *n))
 }
 
-// A checksum with the 16 lent numbers in it, in their order.
-fn numbers_mixed(before: u64, out: &[u64; 16]) -> u64 {
-    let mut sum = before;
-    let mut i = 0;
-    while i < 16 {
-        sum = mixed(sum, out[i]);
-        i += 1;
+// Reads the next answer of the file and compares it with this one. Differences are printed if its number is given.
+pub(crate) fn compare(
+    print: &mut Stdout,
+    shown: Option<usize>,
+    reply: u8,
+    to: &[u8],
+    out: &[u64; 16],
+) -> Result<Outcome, fmt::Error> {
+    let mut comparison = Comparison { same: true, shown };
+    let count = byte().saturating_sub(5) / 3;
+    comparison.item(print, 0, u64::from(byte()), u64::from(reply))?;
+    comparison.numbers(print, out, usize::from(count))?;
+    let mut sum = [0u8; 4];
+    if io::read_full(0, &mut sum) < sum.len() {
+        return Ok(Outcome::CutOff);
     }
-    sum
-}
-
-// Whether this item is as expected, and all before it were. A difference is printed if `answer` is not 0.
-fn same(before: bool, answer: usize, item: usize, expected: u64, found: u64) -> bool {
-    if expected == found {
-        return before;
+    let expected = u64::from(u32::from_be_bytes(sum));
+    comparison.item(print, 17, expected, checksum(to, out))?;
+    if comparison.same {
+        return Ok(Outcome::Same);
     }
-    if 0 < answer {
-        report::difference(answer, item, expected, found);
-    }
-    false
-}
-
-// The same of the first `count` numbers that were lent.
-fn numbers_same(before: bool, answer: usize, out: &[u64; 16], count: usize) -> bool {
-    let mut ok = before;
-    let mut i = 0;
-    while i < 16 {
-        if count <= i {
-            return ok;
-        }
-        ok = same(ok, answer, 1 + i, number(3) as u64, out[i]);
-        i += 1;
-    }
-    ok
-}
-
-// Reads the next answer of the file and compares it with this one. Returns 0 if they are the same, 1 if they differ,
-// and 2 if the file ends before it.
-pub(crate) fn compare(answer: usize, reply: u8, to: &[u8], out: &[u64; 16]) -> u8 {
-    let count = input::minus_or_zero(number(1), 5) / 3;
-    let ok = same(true, answer, 0, number(1) as u64, byte_number(reply));
-    let ok = numbers_same(ok, answer, out, count);
-    let sum = numbers_mixed(bytes_mixed(to), out);
-    let high = number(3);
-    let mut last = [0u8; 1];
-    if io::read_full(0, &mut last) == 0 {
-        return 2;
-    }
-    if same(
-        ok,
-        answer,
-        17,
-        high as u64 % 0x1000000 * 256 + byte_number(last[0]) % 256,
-        sum,
-    ) {
-        return 0;
-    }
-    1
+    Ok(Outcome::Differs)
 }

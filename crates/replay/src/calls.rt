@@ -1,5 +1,5 @@
 // The calls: each exported function by its number in the file, with its parameters in their order.
-use crate::input::{byte, minus_or_zero, number, numbers};
+use crate::input::{byte, number, numbers, place, short_number};
 use aid_abi::{gorvisclen_aid, gorvisclen_aid_matches, gorvisclen_aid_part, gorvisclen_aid_whole};
 use builder_abi::{
     gorvisclen_builder_eq, gorvisclen_force_extended, gorvisclen_required_len,
@@ -31,7 +31,7 @@ struct Head {
 
 // The next number, as a byte: only its last byte is not 0.
 fn last_byte() -> u8 {
-    number(2);
+    short_number();
     byte()
 }
 
@@ -42,25 +42,16 @@ fn next_head() -> Head {
         instruction: last_byte(),
         p1: last_byte(),
         p2: last_byte(),
-        le: number(3) as u32,
+        le: number(),
     }
 }
 
 // Le as a number of two bytes.
-fn short_le(head: Head) -> u16 {
-    (head.le % 0x10000) as u16
+fn short_le(le: u32) -> u16 {
+    (le % 0x10000) as u16
 }
 
-// The first `count` tags, at most all.
-fn path<'a>(tags: &'a [u32; 16], count: usize) -> &'a [u32] {
-    let all = &tags[..];
-    if count < all.len() {
-        return &all[0..count];
-    }
-    all
-}
-
-// Calls an operation with a path of `count` tags.
+// Calls an operation on a record with a path of `count` tags, at most 16.
 fn call_with_path(
     operation: u8,
     count: usize,
@@ -71,14 +62,67 @@ fn call_with_path(
     let reading = last_byte();
     let mut tags = [0u32; 16];
     numbers(&mut tags, count);
-    if operation == 12 {
-        return gorvisclen_get_data_object(reading, record, path(&tags, count), out);
+    let path = &tags[..count.min(16)];
+    match operation {
+        12 => gorvisclen_get_data_object(reading, record, path, out),
+        _ => gorvisclen_value(reading, record, path, to, out),
     }
-    gorvisclen_value(reading, record, path(&tags, count), to, out)
+}
+
+// Calls an operation on a builder or on a command that is cut.
+// Stays: the exported functions take each field of a header alone.
+fn call_with_head(
+    operation: u8,
+    first: &[u8],
+    second: &[u8],
+    to: &mut [u8],
+    out: &mut [u64],
+) -> u8 {
+    let Head {
+        class,
+        instruction: ins,
+        p1,
+        p2,
+        le,
+    } = next_head();
+    match operation {
+        19 => gorvisclen_required_len(class, ins, p1, p2, le, last_byte(), first, out),
+        20 => gorvisclen_force_extended(class, ins, p1, p2, le, last_byte(), first, out),
+        21 => gorvisclen_builder_eq(class, ins, p1, p2, le, last_byte(), first, second, out),
+        22 => gorvisclen_serialize_into(
+            class,
+            ins,
+            p1,
+            p2,
+            le,
+            last_byte(),
+            first,
+            to,
+            place(),
+            out,
+        ),
+        23 => gorvisclen_should_split(class, ins, p1, p2, le, last_byte(), first, place(), out),
+        24 => gorvisclen_new_non_extended(class, ins, p1, p2, first, short_le(le), place()),
+        _ => gorvisclen_write_next(
+            class,
+            ins,
+            p1,
+            p2,
+            short_le(le),
+            place(),
+            place(),
+            last_byte(),
+            first,
+            to,
+            place(),
+            out,
+        ),
+    }
 }
 
 // Calls an operation with two strings and the next `count` numbers of the file. Returns its reply, or 255 if there is
 // no such operation.
+// Stays: the number of an operation is the file's.
 pub(crate) fn call(
     operation: u8,
     count: usize,
@@ -93,124 +137,27 @@ pub(crate) fn call(
         3 => gorvisclen_range(last_byte(), out),
         4 => gorvisclen_class_constants(out),
         5 => gorvisclen_aid_whole(first, out),
-        6 => gorvisclen_aid(first, number(3), out),
-        7 => gorvisclen_aid_matches(first, number(3), second, out),
-        8 => gorvisclen_aid_part(first, number(3), last_byte(), to, out),
+        6 => gorvisclen_aid(first, place(), out),
+        7 => gorvisclen_aid_matches(first, place(), second, out),
+        8 => gorvisclen_aid_part(first, place(), last_byte(), to, out),
         9 => gorvisclen_take_tag(last_byte(), first, out),
         10 => gorvisclen_take_len(last_byte(), first, out),
-        11 => gorvisclen_take_data_object(last_byte(), first, number(3), out),
-        12 | 13 => call_with_path(operation, minus_or_zero(count, 1), first, to, out),
+        11 => gorvisclen_take_data_object(last_byte(), first, place(), out),
+        12 | 13 => call_with_path(operation, count.saturating_sub(1), first, to, out),
         14 => gorvisclen_put_data_object(
             last_byte(),
             last_byte(),
             last_byte(),
             first,
             to,
-            number(3),
+            place(),
             out,
         ),
         15 => gorvisclen_command(last_byte(), first, out),
         16 => gorvisclen_command_data(last_byte(), first, to, out),
         17 => gorvisclen_command_owned(last_byte(), first, to, out),
-        18 => gorvisclen_command_extend(number(3), to, first, out),
-        19 => {
-            let h = next_head();
-            gorvisclen_required_len(
-                h.class,
-                h.instruction,
-                h.p1,
-                h.p2,
-                h.le,
-                last_byte(),
-                first,
-                out,
-            )
-        }
-        20 => {
-            let h = next_head();
-            gorvisclen_force_extended(
-                h.class,
-                h.instruction,
-                h.p1,
-                h.p2,
-                h.le,
-                last_byte(),
-                first,
-                out,
-            )
-        }
-        21 => {
-            let h = next_head();
-            gorvisclen_builder_eq(
-                h.class,
-                h.instruction,
-                h.p1,
-                h.p2,
-                h.le,
-                last_byte(),
-                first,
-                second,
-                out,
-            )
-        }
-        22 => {
-            let h = next_head();
-            gorvisclen_serialize_into(
-                h.class,
-                h.instruction,
-                h.p1,
-                h.p2,
-                h.le,
-                last_byte(),
-                first,
-                to,
-                number(3),
-                out,
-            )
-        }
-        23 => {
-            let h = next_head();
-            gorvisclen_should_split(
-                h.class,
-                h.instruction,
-                h.p1,
-                h.p2,
-                h.le,
-                last_byte(),
-                first,
-                number(3),
-                out,
-            )
-        }
-        24 => {
-            let h = next_head();
-            gorvisclen_new_non_extended(
-                h.class,
-                h.instruction,
-                h.p1,
-                h.p2,
-                first,
-                short_le(h),
-                number(3),
-            )
-        }
-        25 => {
-            let h = next_head();
-            gorvisclen_write_next(
-                h.class,
-                h.instruction,
-                h.p1,
-                h.p2,
-                short_le(h),
-                number(3),
-                number(3),
-                last_byte(),
-                first,
-                to,
-                number(3),
-                out,
-            )
-        }
+        18 => gorvisclen_command_extend(place(), to, first, out),
+        19..=25 => call_with_head(operation, first, second, to, out),
         _ => 255,
     }
 }

@@ -22,9 +22,9 @@
 mod answer;
 mod calls;
 mod input;
-mod report;
+mod stdout;
 mod walk;
 
 fn main() {
-    walk::replay();
+    let _ = walk::replay(&mut stdout::Stdout);
 }

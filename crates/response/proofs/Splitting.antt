@@ -8,13 +8,15 @@ use native.Mathlib.Omega.{arith}
 use lib.Dec.{ltb}
 use lib.ListN.{length, take, get_or, length-take}
 use Rattle.basis.specs.Reply.{ok, refused}
+use Rattle.std.specs.Prelude.{Result, Ok, Err}
+use Rattle.basis.specs.Refusal.{refusal_number}
+use Rattle.basis.specs.declared.refusal.Refusal.{Refusal}
+use Rattle.basis.specs.declared.refusal.Refusal.TheVariants as refusal
 use Rattle.basis.specs.Over.{over_at}
 use Rattle.basis.proofs.Reply.{all_is, all_cond}
 use Rattle.response.specs.Response.{data_of, status_of, split_of, held_of, append_of, room_after, Holds, AppendIs}
 use Rattle.response.specs.declared.status.Status.{Status}
-use Rattle.response.specs.declared.Answer.{Answer}
 use Rattle.response.specs.declared.Response.{Response}
-use Rattle.response.specs.declared.Answer.TheVariants as answer
 
 -- under two bytes there is no response: 22, and no data
 pub too_short : (s : List ℕ) → length s < 2 → split_of s ≡ refused 22
@@ -77,23 +79,23 @@ refused_kept s held room k e = rw e
 
 -- data put behind those held: they do not fit, or they do (rule 13.6)
 module _ (t : Status) (d : List ℕ) (held : ℕ) (room : List ℕ) where
-  pub no_room : length room < held + length d → Holds t d held room (answer.Refused 23) room
+  pub no_room : length room < held + length d → Holds t d held room (Err refusal.ResponseRoomExceeded) room
   unfolding held_of
   no_room h = let f = lt-ltb (length room) (held + length d) h in record { reply = rw f; buffer = rw f }
 
   pub put_behind : (n : ℕ) (after : List ℕ) → n ≡ held + length d → n ≤ length room → after ≡ over_at held d room
-      → Holds t d held room (answer.Response (record { len = n; status = t })) after
+      → Holds t d held room (Ok (record { len = n; status = t })) after
   unfolding held_of
   put_behind n after e h g =
       let f = le-ltb (length room) (held + length d) (omega arith) in record { reply = rw (f, e); buffer = rw f g }
 
 -- an append: the response is refused, or its data are put behind those held
 module _ (s : List ℕ) (held : ℕ) (room : List ℕ) where
-  pub unread : (k : ℕ) → split_of s ≡ refused k → AppendIs s held room (answer.Refused k) room
+  pub unread : (k : Refusal) → split_of s ≡ refused (refusal_number k) → AppendIs s held room (Err k) room
   unfolding append_of
   unread k e = record { reply = rw e; buffer = rw e }
 
-  pub appended : (r : Response) (d : List ℕ) (x : Answer) (after : List ℕ) → split_of s ≡ ok r → d ≡ data_of s
+  pub appended : (r : Response) (d : List ℕ) (x : Result Response Refusal) (after : List ℕ) → split_of s ≡ ok r → d ≡ data_of s
       → Holds r.status d held room x after → AppendIs s held room x after
   unfolding append_of
   appended r d x after e f h =

@@ -1,12 +1,12 @@
 -- A response split into data and status (rules 13.1 and 13.2), and its data appended to a lent room (rule 13.6).
 -- Refusals 22 and 23.
-use Rattle.std.specs.Prelude.{ℕ, ◌+◌, ◌-◌, ◌≡◌, cond, List, ltb, length, take, get_or}
+use Rattle.std.specs.Prelude.{ℕ, ◌+◌, ◌-◌, ◌≡◌, Result, cond, List, ltb, length, take, get_or}
 use Rattle.basis.specs.Reply.{Reply, ok, refused, then}
+use Rattle.basis.specs.Refusal.{as_reply}
+use Rattle.basis.specs.declared.refusal.Refusal.{Refusal}
 use Rattle.basis.specs.Over.{over_at}
 use Rattle.response.specs.declared.status.Status.{Status}
 use Rattle.response.specs.declared.Response.{Response}
-use Rattle.response.specs.declared.Answer.{Answer}
-use Rattle.response.specs.declared.Answer.TheVariants as answer
 
 -- the data of a response: all its bytes but the last two (rules 13.1 and 13.2)
 unfoldable pub data_of : List ℕ → List ℕ
@@ -33,24 +33,19 @@ abbrev pub room_after : Reply Response → ℕ → List ℕ → List ℕ → Lis
 room_after (ok r) held d room = over_at held d room
 room_after (refused k) held d room = room
 
--- an answer as a reply
-abbrev pub as_reply : Answer → Reply Response
-as_reply (answer.Response r) = ok r
-as_reply (answer.Refused k) = refused k
-
 -- the promises of `split` and `data`
-abbrev pub SplitIs : List ℕ → Answer → Type 0
+abbrev pub SplitIs : List ℕ → Result Response Refusal → Type 0
 SplitIs s x = as_reply x ≡ split_of s
 
 abbrev pub DataIs : List ℕ → List ℕ → Type 0
 DataIs s x = x ≡ data_of s
 
 -- the contract of the private `hold`: data d with the status t
-pub record Holds (t : Status) (d : List ℕ) (held : ℕ) (room : List ℕ) (x : Answer) (after : List ℕ) : Type 0 where
+pub record Holds (t : Status) (d : List ℕ) (held : ℕ) (room : List ℕ) (x : Result Response Refusal) (after : List ℕ) : Type 0 where
   pub reply : as_reply x ≡ held_of held (length room) (record { len = length d; status = t })
   pub buffer : after ≡ room_after (held_of held (length room) (record { len = length d; status = t })) held d room
 
 -- the promise of `append`
-pub record AppendIs (s : List ℕ) (held : ℕ) (room : List ℕ) (x : Answer) (after : List ℕ) : Type 0 where
+pub record AppendIs (s : List ℕ) (held : ℕ) (room : List ℕ) (x : Result Response Refusal) (after : List ℕ) : Type 0 where
   pub reply : as_reply x ≡ append_of s held (length room)
   pub buffer : after ≡ room_after (append_of s held (length room)) held (data_of s) room

@@ -1,18 +1,17 @@
 -- The 21 listed status words and their short names, in one table that is looked up by the word (rule 13.5). The names
 -- are those of the Rust's variants (docs/DECISIONS.md).
-use Rattle.std.specs.Prelude.{ℕ, suc, ◌-◌, ◌≡◌, Bool, true, false, cond, List, [], ◌∷◌, ◌++◌, eqb, ltb, length, take, get_or, replicate}
+use Rattle.std.specs.Prelude.{ℕ, suc, ◌-◌, ◌≡◌, Bool, true, false, Result, cond, List, [], ◌∷◌, ◌++◌, eqb, ltb, length, take, get_or, replicate}
+use Rattle.std.specs.Prelude as std
 use Prim.Native.String.{String}
 use Rattle.std.proofs.Math.Option.{Option, none, some}
 use Rattle.basis.specs.Ascii.{ascii}
 use Rattle.basis.specs.Reply.{Reply, ok, refused}
+use Rattle.basis.specs.Refusal.{as_reply, as_option}
+use Rattle.basis.specs.declared.refusal.Refusal.{Refusal}
 use Rattle.basis.specs.Over.{over}
 use Rattle.response.specs.Status.{word_of}
 use Rattle.response.specs.declared.status.Status.{Status}
 use Rattle.response.specs.declared.words.ListedWord.{ListedWord}
-use Rattle.response.specs.declared.words.Entry.{Entry}
-use Rattle.response.specs.declared.words.Entry.TheVariants as entry
-use Rattle.response.specs.declared.words.Copied.{Copied}
-use Rattle.response.specs.declared.words.Copied.TheVariants as copied
 
 -- an entry: a word, the length of its name, and the name with spaces after it, in 32 letters
 abbrev pub listed_word : ℕ → String → ListedWord
@@ -95,23 +94,14 @@ abbrev pub buffer_after : Reply ℕ → List ℕ → List ℕ → List ℕ
 buffer_after (ok n) name to = over name to
 buffer_after (refused k) name to = to
 
--- the answers of the code in these forms
-abbrev pub entry_as_option : Entry → Option ℕ
-entry_as_option (entry.Place k) = some k
-entry_as_option entry.None = none
-
-abbrev pub copied_as_reply : Copied → Reply ℕ
-copied_as_reply (copied.Bytes n) = ok n
-copied_as_reply (copied.Refused k) = refused k
-
 -- a name copied to the front of a buffer
-pub record NameCopied (name to : List ℕ) (x : Copied) (after : List ℕ) : Type 0 where
-  pub reply : copied_as_reply x ≡ copy_of (length name) (length to)
+pub record NameCopied (name to : List ℕ) (x : Result ℕ Refusal) (after : List ℕ) : Type 0 where
+  pub reply : as_reply x ≡ copy_of (length name) (length to)
   pub buffer : after ≡ buffer_after (copy_of (length name) (length to)) name to
 
 -- the promises of `listed` and `name`
-abbrev pub ListedIs : Status → Entry → Type 0
-ListedIs t x = entry_as_option x ≡ place_of t
+abbrev pub ListedIs : Status → std.Option ℕ → Type 0
+ListedIs t x = as_option x ≡ place_of t
 
-abbrev pub NameIs : Status → List ℕ → Copied → List ℕ → Type 0
+abbrev pub NameIs : Status → List ℕ → Result ℕ Refusal → List ℕ → Type 0
 NameIs t to x after = NameCopied (name_of t) to x after

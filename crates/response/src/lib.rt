@@ -7,8 +7,8 @@ ghost use Rattle.response.specs.Response.{SplitIs, DataIs, Holds, AppendIs};
 mod status;
 mod words;
 
+use basis::Refusal;
 pub use status::{Status, StatusClass};
-pub use words::{Copied, Entry};
 
 // A response as numbers: how many bytes of data it has, and its status.
 #[derive(Clone, Copy)]
@@ -17,64 +17,56 @@ pub struct Response {
     pub status: Status,
 }
 
-// A response, or the refusal: 22, and for an append then 23 (rules 1.28 and 1.29).
-#[derive(Clone, Copy)]
-pub enum Answer {
-    Response(Response),
-    Refused(u8),
-}
-
 // Splits a response: all its bytes but the last two are data, the last two are SW1 and SW2 (rule 13.1).
-pub fn split(response: &[u8]) -> Answer
+#[tactic(auto, unfolding(crate::specs::Response::split_of, crate::specs::Response::status_of))]
+pub fn split(response: &[u8]) -> Result<Response, Refusal>
     ensures { SplitIs response.now result }
 {
-    let n = response.len();
-    if n < 2 {
-        return Answer::Refused(22);
+    match response {
+        [data @ .., sw1, sw2] => Ok(Response {
+            len: data.len(),
+            status: Status {
+                sw1: *sw1,
+                sw2: *sw2,
+            },
+        }),
+        _ => Err(Refusal::ResponseTooShort),
     }
-    let status = Status {
-        sw1: response[n - 2],
-        sw2: response[n - 1],
-    };
-    Answer::Response(Response { len: n - 2, status })
 }
 
 // The data of a response, as that very part of its bytes; no bytes if it is refused (rule 13.2).
+#[tactic(auto, unfolding(crate::specs::Response::data_of))]
 pub fn data<'a>(response: &'a [u8]) -> &'a [u8]
     ensures { DataIs response.now result.now }
 {
-    let n = response.len();
-    if n < 2 {
-        return &response[..0];
+    match response {
+        [data @ .., _, _] => data,
+        _ => &response[..0],
     }
-    &response[..n - 2]
 }
 
 // Puts data behind the bytes of a room that are held. The answer is the response so far: how many bytes are held now,
 // and the status. 23 if they exceed the room: it stays as it was (rule 13.6).
-fn hold(status: Status, data: &[u8], held: usize, room: &mut [u8]) -> Answer
+#[tactic(auto, using(crate::proofs::Splitting::no_room, crate::proofs::Splitting::put_behind, basis::proofs::Over::copied_at))]
+fn hold(status: Status, data: &[u8], held: usize, room: &mut [u8]) -> Result<Response, Refusal>
     ensures { Holds status «data».now held room.old result room.new }
 {
     let n = data.len();
-    if room.len() < held {
-        return Answer::Refused(23);
-    }
-    if room.len() - held < n {
-        return Answer::Refused(23);
+    if room.len() < held || room.len() - held < n {
+        return Err(Refusal::ResponseRoomExceeded);
     }
     room[held..held + n].copy_from_slice(data);
-    Answer::Response(Response {
+    Ok(Response {
         len: held + n,
         status,
     })
 }
 
 // Appends the data of a response to a room, behind the bytes that are held: 22, then 23 (rule 13.6).
-pub fn append(response: &[u8], held: usize, room: &mut [u8]) -> Answer
+#[tactic(auto, using(crate::proofs::Splitting::unread))]
+pub fn append(response: &[u8], held: usize, room: &mut [u8]) -> Result<Response, Refusal>
     ensures { AppendIs response.now held room.old result room.new }
 {
-    match split(response) {
-        Answer::Refused(k) => Answer::Refused(k),
-        Answer::Response(new) => hold(new.status, data(response), held, room),
-    }
+    let new = split(response)?;
+    hold(new.status, data(response), held, room)
 }

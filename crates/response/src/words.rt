@@ -4,8 +4,10 @@ ghost use Rattle.std.specs.Prelude.{◌≡◌, ◌<◌, ◌≤◌};
 ghost use Rattle.response.specs.Words.{listed_at, name_in, NameCopied, ListedIs, NameIs};
 
 use crate::Status;
+use basis::Refusal;
 
 // An entry of the table: a word, how many letters its name has, and the name with spaces after it.
+// Stays: the definitions `listed_at` and `name_in` say a name as the first letters of 32.
 #[derive(Clone, Copy)]
 struct ListedWord {
     word: u16,
@@ -122,20 +124,6 @@ const WORDS: [ListedWord; 21] = [
     },
 ];
 
-// The place of a word in the table, counted from 0, if it is listed.
-#[derive(Clone, Copy)]
-pub enum Entry {
-    Place(usize),
-    None,
-}
-
-// How many bytes were copied; 16 if the name is longer than the buffer.
-#[derive(Clone, Copy)]
-pub enum Copied {
-    Bytes(usize),
-    Refused(u8),
-}
-
 // The entry at a place of the table.
 fn listed_at(place: usize) -> ListedWord
     requires { place < 21 }
@@ -144,45 +132,44 @@ fn listed_at(place: usize) -> ListedWord
     WORDS[place]
 }
 
-// Copies the name of an entry to the front of a lent buffer.
-fn copy_name(entry: ListedWord, to: &mut [u8]) -> Copied
+// Copies the name of an entry to the front of a lent buffer, and says how many bytes were copied: 16 if the name is
+// longer than the buffer.
+fn copy_name(entry: ListedWord, to: &mut [u8]) -> Result<usize, Refusal>
     requires { entry.len ≤ 32 }
     ensures { NameCopied (name_in entry) to.old result to.new }
 {
     let len = entry.len;
     if to.len() < len {
-        return Copied::Refused(16);
+        return Err(Refusal::DoesNotFit);
     }
     let letters = entry.letters;
     to[..len].copy_from_slice(&letters[..len]);
-    Copied::Bytes(len)
+    Ok(len)
 }
 
 impl Status {
-    // The place of this status in the table, which is looked up by its word (rule 13.5).
-    pub fn listed(self) -> Entry
+    // The place of this status in the table, counted from 0, if it is listed: it is looked up by its word (rule 13.5).
+    pub fn listed(self) -> Option<usize>
         ensures { ListedIs self result }
     {
         let word = self.word();
-        let mut place = 0;
-        while place < 21 {
+        for place in 0..WORDS.len() {
             let entry = listed_at(place);
             if entry.word == word {
-                return Entry::Place(place);
+                return Some(place);
             }
-            place += 1;
         }
-        Entry::None
+        None
     }
 
     // Copies the name of this status to the front of a lent buffer. A status that is not listed has no name: no byte is
     // copied (rule 13.5).
-    pub fn name(self, to: &mut [u8]) -> Copied
+    pub fn name(self, to: &mut [u8]) -> Result<usize, Refusal>
         ensures { NameIs self to.old result to.new }
     {
         match self.listed() {
-            Entry::None => Copied::Bytes(0),
-            Entry::Place(place) => copy_name(listed_at(place), to),
+            None => Ok(0),
+            Some(place) => copy_name(listed_at(place), to),
         }
     }
 }

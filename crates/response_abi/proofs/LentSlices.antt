@@ -1,19 +1,19 @@
 -- What the exported functions leave in the slices that a host lends.
 use Prim.Native.Nat.{ℕ, ◌≤◌, ◌<◌}
-use mathlib.Core.Path.{◌≡◌, refl, sym, subst, ◌∙◌}
+use mathlib.Core.Path.{◌≡◌, refl, subst}
 use mathlib.Core.Bool.{Bool, true, false, cond}
 use mathlib.Core.List.{List, [], ◌∷◌}
 use borrow.Author.Tests.{lt-ltb, le-ltb}
 use lib.Dec.{ltb}
 use lib.ListN.{length}
-use Rattle.basis.specs.Reply.{Reply, ok, refused, then, status}
-use Rattle.abi.specs.Answers.{too_short, out_after, copy_after, NumbersWritten, BytesCopied}
+use Rattle.basis.specs.Reply.{Reply, ok, refused, then}
+use Rattle.std.specs.Prelude.{Result}
+use Rattle.basis.specs.Refusal.{as_reply}
+use Rattle.basis.specs.declared.refusal.Refusal.{Refusal}
+use Rattle.abi.specs.Answers.{too_short, NumbersWritten, BytesCopied}
 use Rattle.abi.proofs.AnswerLaws.{after_short}
-use Rattle.response.specs.Response.{data_of, split_of, held_of, append_of, room_after, as_reply, AppendIs}
-use Rattle.response.specs.Words.{buffer_after, copied_as_reply, NameCopied}
+use Rattle.response.specs.Response.{data_of, split_of, held_of, append_of, room_after, AppendIs}
 use Rattle.response.specs.declared.Response.{Response}
-use Rattle.response.specs.declared.Answer.{Answer}
-use Rattle.response.specs.declared.words.Copied.{Copied}
 use Rattle.response_abi.specs.Numbers.{response_reply, Appended}
 
 -- 16 is a smaller number than 22 and 23: it is given whatever else is refused (rule 1.22)
@@ -41,7 +41,7 @@ module _ (s : List ℕ) (held : ℕ) (room out : List ℕ) where
         bytes = rw e (after_short (λ y. room_after y held (data_of s) room) room (append_of s held (length room)) (λ k. refl));
       }
 
-  pub appended : (x : Answer) (room' : List ℕ) (r : ℕ) (out' : List ℕ) → 3 ≤ length out → AppendIs s held room x room'
+  pub appended : (x : Result Response Refusal) (room' : List ℕ) (r : ℕ) (out' : List ℕ) → 3 ≤ length out → AppendIs s held room x room'
       → NumbersWritten 3 (response_reply (as_reply x)) out r out' → Appended s held room out r room' out'
   appended x room' r out' h a w =
       record {
@@ -53,31 +53,7 @@ module _ (s : List ℕ) (held : ℕ) (room out : List ℕ) where
 abbrev pub one : ℕ → Reply (List ℕ)
 one n = ok (n ∷ [])
 
-one_status : (y : Reply ℕ) → status (then y one) ≡ status y
-one_status (ok n) = refl
-one_status (refused k) = refl
-
-copy_row : (b : Bool) (n : ℕ) → cond b (refused 16) (ok (n ∷ [])) ≡ then (cond b (refused 16) (ok n)) one
-copy_row true n = refl
-copy_row false n = refl
-
-copy_left : (b : Bool) (n : ℕ) (d to : List ℕ) → copy_after (cond b (refused 16) (ok (n ∷ []))) d to ≡ buffer_after (cond b (refused 16) (ok n)) d to
-copy_left true n d to = refl
-copy_left false n d to = refl
-
 -- a name d: the slice for its length is too short; it is long enough
 module _ (d to out : List ℕ) where
   pub no_row : length out < 1 → BytesCopied d to out 16 to out
   no_row h = let e = lt-ltb (length out) 1 h in record { reply = rw e; bytes = rw e; row = rw e }
-
-  pub name_row : (x : Copied) (to' : List ℕ) (y : Reply ℕ) (out' : List ℕ) → 1 ≤ length out → NameCopied d to x to' → copied_as_reply x ≡ y
-      → out' ≡ out_after (then y one) out → BytesCopied d to out (status y) to' out'
-  name_row x to' y out' h a e o =
-      let f = le-ltb (length out) 1 h in
-      let same : y ≡ cond (ltb (length to) (length d)) (refused 16) (ok (length d)) = sym e ∙ a.reply in
-      let row = copy_row (ltb (length to) (length d)) (length d) in
-      record {
-        reply = rw (f, row, ← same, one_status);
-        bytes = rw (f, copy_left) a.buffer;
-        row = rw (f, row, ← same) o;
-      }

@@ -29,9 +29,8 @@ use Rattle.builder_laws.proofs.LeWritten.{lowered_expected, lowered_written}
 use Rattle.splitter.specs.Step.{most_data, first_of}
 use Rattle.splitter.specs.Pieces.{Part, parts, piece_of, pieces_of}
 use Rattle.splitter_laws.proofs.Cut.{room_is, cut}
-use Rattle.reassembler.specs.Join.{continues, held_len, extended_in, chain_after, join_of}
+use Rattle.reassembler.specs.Join.{closed, open_with, continues, held_len, extended_in, chain_after, join_of}
 use Rattle.reassembler.specs.declared.Reassembler.{Reassembler}
-use Rattle.reassembler.specs.declared.Reassembler.TheVariants.{Closed, Open}
 use Rattle.reassembler.proofs.Headers.{same_class_is, continues_is}
 use Rattle.reassembler.proofs.Steps.{step_more, step_last}
 use Rattle.roundtrip_laws.specs.Run.{CommandBack, Run, reply_then, run}
@@ -72,7 +71,7 @@ given_by r b d room x =
 
 -- the run: more to k pieces, then the command
 abbrev pub more_then_command : ℕ → CommandBack → List ℕ → Run
-more_then_command k g room = record { replies = replicate k (ok none) ++ (ok (some g) ∷ []); state = Closed; room = room }
+more_then_command k g room = record { replies = replicate k (ok none) ++ (ok (some g) ∷ []); state = closed; room = room }
 
 -- what is proved of the parts ps of a command: there is a part, and their pieces have that run
 pub record Sends (b : CommandBuilder) (d : List ℕ) (ps : List Part) : Type 0 where
@@ -90,7 +89,7 @@ module _ (b : CommandBuilder) (d : List ℕ) (few : length d ≤ 65535) (s : Sen
   abbrev whole : CommandBack
   whole = given_by r b d room (extended_in r (view_for b (length d)))
 
-  whole_joined : join_of r room (command_of b d) ≡ record { reply = ok (some whole.command); state = Closed; room = over_at (held_len r) d room }
+  whole_joined : join_of r room (command_of b d) ≡ record { reply = ok (some whole.command); state = closed; room = over_at (held_len r) d room }
   whole_joined =
       let v = view_for b (length d) in
       step_last r room (command_of b d) v d whole_read.view whole_read.part (ready v refl refl refl refl) room-left s.clear
@@ -128,7 +127,7 @@ module _ (b : CommandBuilder) (d : List ℕ) (few : length d ≤ 65535) (k : ℕ
   view = view_for (first_of b) (length now)
 
   abbrev held : Reassembler
-  held = Open (chain_after view (held_len r + length now))
+  held = open_with (chain_after view (held_len r + length now))
 
   sizes : length now + length rest ≡ length d
   sizes = omega (arith, length-take k d, length-drop k d)
@@ -201,7 +200,7 @@ expected Max h = tt
 pub command_back : (b : CommandBuilder) (d : List ℕ) (m : ℕ) (room : List ℕ) → b.class.cla / 16 % 2 ≡ 0 → b.class.cla ≢ 0xEF
     → ((n : ℕ) → b.le ≡ Ne n → n ≤ 65535) → length d ≤ 65535 → 10 ≤ m → length d ≤ length room
     → let ps = pieces_of b d m in
-    run Closed room ps
+    run closed room ps
     ≡ record {
       replies =
           replicate (length ps - 1) (ok none)
@@ -221,10 +220,10 @@ pub command_back : (b : CommandBuilder) (d : List ℕ) (m : ℕ) (room : List �
             «data» = d;
           }))
           ∷ []);
-      state = Closed;
+      state = closed;
       room = over d room;
     }
 command_back b d m room clear class le few ten left =
     let s : Sendable b = record { clear = omega arith; class = omega arith; le = expected b.le le } in
-    (cut_sends b d m ten few).sent s Closed room (λ v _ _ _ _. refl) (omega arith)
+    (cut_sends b d m ten few).sent s closed room (λ v _ _ _ _. refl) (omega arith)
     ∙ rw (zero-add, over_at_zero, front_of_room, length-map)

@@ -15,7 +15,7 @@ use Rattle.splitter_laws.specs.Asked.{short_of, start_of, answers, one_by_one}
 use Rattle.splitter_laws.proofs.Asked.{pieces_is, pieces_answers}
 use Rattle.basis.proofs.Every.{every_weaken}
 use Rattle.splitter_laws.proofs.Parts.{fits}
-use Rattle.reassembler.specs.declared.Reassembler.TheVariants.{Closed}
+use Rattle.reassembler.specs.Join.{closed}
 use Rattle.roundtrip_laws.specs.Run.{CommandBack, Run, run}
 use Rattle.roundtrip_laws.specs.Jobs.{Request, Job, InScope, HasRoom, pieces, stream, command_back_to, replies_to, all_replies, room_after}
 use Rattle.roundtrip_laws.specs.Noise.{Sent, all_sent, pieces_sent, replies_to_pieces, RefusedThere}
@@ -44,24 +44,24 @@ every_piece_fits j f =
 -- b. the pieces are sent in order through one fresh reassembler, whatever bytes the room has: each command comes back
 -- exactly, at its last piece and at no other; every other reply is "more"; no chain is open at the end
 pub given_back : (js : List Job) (room : List ℕ) → Every InScope js → Every (HasRoom room) js
-    → run Closed room (stream js) ≡ record { replies = all_replies js; state = Closed; room = room_after js room }
+    → run closed room (stream js) ≡ record { replies = all_replies js; state = closed; room = room_after js room }
 unfolding flat_map room_after
-given_back [] room f h = run_none Closed room
+given_back [] room f h = run_none closed room
 given_back (j ∷ js) room f h =
     let d = j.request.«data» in
     let long : length (over d room) ≡ length room = length_over d room (omega (arith, h.0)) in
     let rest = given_back js (over d room) f.1 (every_weaken (HasRoom (over d room)) (HasRoom room) js (λ k g. omega (arith, g, long)) h.1) in
-    run_after Closed room (pieces j) (stream js) _ (job_sent j f.0 room h.0)
-    ∙ ap (then (record { replies = replies_to j; state = Closed; room = over d room })) rest
+    run_after closed room (pieces j) (stream js) _ (job_sent j f.0 room h.0)
+    ∙ ap (then (record { replies = replies_to j; state = closed; room = over d room })) rest
 
 -- c. refused pieces, put in anywhere, change nothing (`noise_nothing`), so every command comes back among them too
 pub given_back_among_noise : (js : List Job) (room : List ℕ) (ss : List Sent) → Every InScope js → Every (HasRoom room) js
-    → RefusedThere Closed room ss → pieces_sent ss ≡ stream js
-    → let r = run Closed room (all_sent ss) in
-    (replies_to_pieces ss r.replies ≡ all_replies js) × (r.state ≡ Closed) × (r.room ≡ room_after js room)
+    → RefusedThere closed room ss → pieces_sent ss ≡ stream js
+    → let r = run closed room (all_sent ss) in
+    (replies_to_pieces ss r.replies ≡ all_replies js) × (r.state ≡ closed) × (r.room ≡ room_after js room)
 given_back_among_noise js room ss f h n e =
-    let s = noise_nothing Closed room ss n in
-    let back : run Closed room (pieces_sent ss) ≡ _ = ap (run Closed room) e ∙ given_back js room f h in
+    let s = noise_nothing closed room ss n in
+    let back : run closed room (pieces_sent ss) ≡ _ = ap (run closed room) e ∙ given_back js room f h in
     (s.0 ∙ ap (λ (x : Run). x.replies) back, s.1 ∙ ap (λ (x : Run). x.state) back, s.2 ∙ ap (λ (x : Run). x.room) back)
 
 -- the commands among replies
@@ -97,6 +97,6 @@ same_stream_same_commands js ks f g e =
     let held : (j : Job) → InScope j → HasRoom room j = λ j x. omega (arith, x.few, length-replicate {A = ℕ} 65535 0) in
     let replies : all_replies js ≡ all_replies ks =
     sym (ap (λ (x : Run). x.replies) (given_back js room f (every_weaken (HasRoom room) InScope js held f)))
-    ∙ ap (λ ps. (run Closed room ps).replies) e
+    ∙ ap (λ ps. (run closed room ps).replies) e
     ∙ ap (λ (x : Run). x.replies) (given_back ks room g (every_weaken (HasRoom room) InScope ks held g)) in
     sym (commands_are js) ∙ ap commands replies ∙ commands_are ks

@@ -16,7 +16,7 @@ use Rattle.builder_laws.specs.Read.{extended_for}
 use Rattle.builder_laws.proofs.LeWritten.{le_read, written_short, extended_read}
 use Rattle.splitter.specs.Pieces.{parts, piece_of}
 use Rattle.splitter_laws.specs.Asked.{short_of}
-use Rattle.reassembler.specs.declared.Reassembler.TheVariants.{Closed}
+use Rattle.reassembler.specs.Join.{closed}
 use Rattle.roundtrip_laws.specs.Run.{run}
 use Rattle.roundtrip_laws.specs.Jobs.{Job, InScope, HasRoom, pieces, replies_to}
 use Rattle.roundtrip_laws.proofs.Cuts.{cut_sends, command_back}
@@ -81,7 +81,7 @@ module _ (j : Job) (f : InScope j) where
   one_each = one_reply_each j some_piece
 
   -- the pieces of a job, sent with no chain open
-  pub job_sent : (room : List ℕ) → HasRoom room j → run Closed room (pieces j) ≡ record { replies = replies_to j; state = Closed; room = over d room }
+  pub job_sent : (room : List ℕ) → HasRoom room j → run closed room (pieces j) ≡ record { replies = replies_to j; state = closed; room = over d room }
   unfolding replies_to
   job_sent room h =
       command_back builder d j.buffer room (omega (arith, f.clear)) (not_ef j f)

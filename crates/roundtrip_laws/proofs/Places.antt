@@ -10,7 +10,7 @@ use lib.Seq.{get_or-append-add, get_or_at}
 use Rattle.basis.specs.Every.{Every}
 use Rattle.basis.specs.Reply.{Reply, ok, refused}
 use Rattle.basis.proofs.Every.{every_at}
-use Rattle.reassembler.specs.declared.Reassembler.TheVariants.{Closed}
+use Rattle.reassembler.specs.Join.{closed}
 use Rattle.roundtrip_laws.specs.Run.{CommandBack, Run, run}
 use Rattle.roundtrip_laws.specs.Jobs.{Job, InScope, HasRoom, pieces, stream, command_back_to, replies_to, all_replies}
 use Rattle.roundtrip_laws.proofs.Runs.{run_replies}
@@ -50,7 +50,7 @@ as_many_replies (j ∷ js) ks f =
 module _ (before after : List Job) (j : Job) (room : List ℕ) (f : Every InScope (before ++ (j ∷ after)))
     (h : Every (HasRoom room) (before ++ (j ∷ after))) where
   abbrev sent : List (Reply (Option CommandBack))
-  sent = (run Closed room (stream (before ++ (j ∷ after)))).replies
+  sent = (run closed room (stream (before ++ (j ∷ after)))).replies
 
   sent_is : sent ≡ all_replies before ++ (replicate (length (pieces j) - 1) (ok none) ++ (ok (some (command_back_to j)) ∷ all_replies after))
   unfolding flat_map replies_to
@@ -88,7 +88,7 @@ module _ (before after : List Job) (j : Job) (room : List ℕ) (f : Every InScop
       let before-it = all_replies before in
       let after-it = all_replies after in
       let size = as_many_replies before (j ∷ after) f in (
-        run_replies Closed room (stream (before ++ (j ∷ after))),
+        run_replies closed room (stream (before ++ (j ∷ after))),
         some_piece j (every_at InScope before after j f),
         (λ i g. at_more sent before-it after-it (n - 1) first (ok none) (ok (some (command_back_to j))) (refused 0) sent_is size i (omega (arith, g))),
         at_last sent before-it after-it (n - 1) first (ok none) (ok (some (command_back_to j))) (refused 0) sent_is size (n - 1) (omega arith),

@@ -1,6 +1,6 @@
 -- What one step replies, case by case. With a buffer of ten bytes and at most 65,535 data bytes it is never a refusal.
 use Prim.Native.Nat.{ℕ, ◌+◌, ◌-◌, ◌≤◌, ◌<◌, min}
-use mathlib.Core.Path.{◌≡◌, refl, sym, ◌∙◌}
+use mathlib.Core.Path.{◌≡◌, refl, sym, ap, ◌∙◌}
 use mathlib.Core.Option.{none, some}
 use native.Mathlib.Decide.{dec_le}
 use native.Mathlib.Omega.{arith}
@@ -10,9 +10,10 @@ use Rattle.basis.proofs.Reply.{refused_not_ok}
 use Rattle.builder.specs.declared.CommandBuilder.{CommandBuilder}
 use Rattle.builder.specs.declared.ExtendedLen.{ExtendedLen}
 use Rattle.builder.specs.declared.ExtendedLen.TheVariants.{Unsupported, Supported, Forced}
-use Rattle.builder.proofs.Data.{too_many, few_enough}
-use Rattle.builder.proofs.Lengths.{lengths_few}
-use Rattle.builder.specs.Bytes.{lowered_of, lc_len, le_len}
+use Rattle.builder.proofs.Data.{too_many, few_enough, value_few, refusal_many}
+use Rattle.builder.proofs.Lengths.{lengths_few, required_is}
+use Rattle.builder.specs.Builder.{unless_long}
+use Rattle.builder.specs.Bytes.{lowered_of, lc_len, le_len, required_len}
 use Rattle.splitter.specs.Step.{most_data, room_in, room_of, first_of, step_of}
 
 -- a part may have 255 data bytes in every mode
@@ -63,3 +64,39 @@ module _ (b : CommandBuilder) (n m : ℕ) where
         | yes h ↦ refused_not_ok k none (sym e ∙ step_whole few (omega arith) h)
         | no h ↦ refused_not_ok k _ (sym e ∙ step_split few (omega arith) (omega arith) (λ z. omega (arith, room_not_zero ten)))
       ]
+
+-- what `should_split` replies, by the length that the builder replies
+module _ (b : CommandBuilder) (n m t r : ℕ) where
+  -- a refused length
+  pub length_refused : (x k : ℕ) → refused k ≡ unless_long n (ok x) → refused k ≡ step_of b n m
+  length_refused x k e =
+      let many = refusal_many n x k (sym e) in
+      rw many.1 (sym (step_long b n m many.0))
+
+  module _ (e : ok t ≡ unless_long n (ok (required_len b n))) where
+    length_is : (n ≤ 65535) × (t ≡ 4 + lc_len b n + n + le_len b n)
+    length_is = let few = value_few n _ t (sym e) in (few.0, sym few.1 ∙ required_is b n)
+
+    pub data_counted : n ≤ t
+    data_counted = omega (arith, length_is.1)
+
+    pub small_refused : m < 4 → refused 14 ≡ step_of b n m
+    small_refused g = sym (step_small b n m length_is.0 g)
+
+    module _ (g : 4 ≤ m) (is : r ≡ room_in b.mode (t - n) m) where
+      room_found : r ≡ room_of b n m
+      unfolding room_of
+      room_found =
+          let others : t - n ≡ 4 + lc_len b n + le_len b n = omega (arith, length_is.1) in
+          is ∙ ap (λ (x : ℕ). room_in b.mode x m) others
+
+      pub whole_fits : n ≤ r → ok none ≡ step_of b n m
+      whole_fits f = sym (step_whole b n m length_is.0 g (omega (arith, room_found)))
+
+      pub no_room_refused : r < n → r ≡ 0 → refused 14 ≡ step_of b n m
+      no_room_refused f z = sym (step_no_room b n m length_is.0 g (omega (arith, room_found)) (sym room_found ∙ z))
+
+      pub split_found : (first rest : CommandBuilder) → r < n → (r ≡ 0 → ⊥) → first ≡ first_of b → rest ≡ lowered_of b
+          → ok (some (record { first = first; len = r; rest = rest })) ≡ step_of b n m
+      split_found first rest f z first_is rest_is =
+          rw (first_is, rest_is, room_found) (sym (step_split b n m length_is.0 g (omega (arith, room_found)) (λ e. z (room_found ∙ e))))

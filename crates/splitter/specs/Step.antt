@@ -1,7 +1,10 @@
 -- One step of splitting, in every mode. Rules 4.1 to 4.6; refusals 13 and 14.
-use Rattle.std.specs.Prelude.{ℕ, ◌+◌, ◌-◌, min, ◌≡◌, cond, List, ltb, leb, eqb, length}
+use Rattle.std.specs.Prelude.{ℕ, Result, Ok, Err, ◌+◌, ◌-◌, min, ◌≡◌, cond, List, ltb, leb, eqb, length}
 use Rattle.std.proofs.Math.Option.{Option, none, some}
+use Rattle.std.specs.Prelude as std
 use Rattle.basis.specs.Reply.{Reply, ok, refused}
+use Rattle.basis.specs.Refusal.{refusal_number, as_option}
+use Rattle.basis.specs.declared.refusal.Refusal.{Refusal}
 use Rattle.class.specs.Chain.{chained}
 use Rattle.builder.specs.Builder.{unless_long}
 use Rattle.builder.specs.Bytes.{lowered_of, lc_len, le_len}
@@ -10,8 +13,6 @@ use Rattle.builder.specs.declared.ExpectedLen.TheVariants.{Ne}
 use Rattle.builder.specs.declared.ExtendedLen.{ExtendedLen}
 use Rattle.builder.specs.declared.ExtendedLen.TheVariants.{Unsupported, Supported, Forced}
 use Rattle.splitter.specs.declared.step.Split.{Split}
-use Rattle.splitter.specs.declared.step.ShouldSplit.{ShouldSplit}
-use Rattle.splitter.specs.declared.step.ShouldSplit.TheVariants as should
 
 -- the most data bytes of a part: 255 in short mode, else 65,535 (rule 4.1)
 abbrev pub most_data : ExtendedLen → ℕ
@@ -49,12 +50,11 @@ step_of b n m =
     (cond (leb n (room_of b n m)) (ok none)
     (cond (eqb (room_of b n m) 0) (refused 14) (ok (some (record { first = first_of b; len = room_of b n m; rest = lowered_of b }))))))
 
--- an answer as a reply
-abbrev pub as_reply : ShouldSplit → Reply (Option Split)
-as_reply should.Whole = ok none
-as_reply (should.Split s) = ok (some s)
-as_reply (should.Refused k) = refused k
+-- an answer that may be absent as a reply
+abbrev pub as_reply : {A : Type 0} → Result (std.Option A) Refusal → Reply (Option A)
+as_reply (Ok x) = ok (as_option x)
+as_reply (Err k) = refused (refusal_number k)
 
 -- the promise of `should_split`
-abbrev pub ShouldSplitIs : CommandBuilder → List ℕ → ℕ → ShouldSplit → Type 0
+abbrev pub ShouldSplitIs : CommandBuilder → List ℕ → ℕ → Result (std.Option Split) Refusal → Type 0
 ShouldSplitIs b d m x = as_reply x ≡ step_of b (length d) m

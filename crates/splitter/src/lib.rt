@@ -6,8 +6,8 @@
 mod pieces;
 mod step;
 
-pub use pieces::{Left, NewPieces, NextPiece, Piece, Pieces, WriteNext, Written};
-pub use step::{ShouldSplit, Split, should_split};
+pub use pieces::{Left, Piece, Pieces, Written};
+pub use step::{Split, should_split};
 
 // The default buffer, for a short command with 255 data bytes and Le: 4 + 1 + 255 + 1 bytes (rule 4.2).
 pub const BUFFER_LEN: usize = 261;

@@ -3,7 +3,8 @@
 ghost use Rattle.std.specs.Prelude.{◌≡◌};
 ghost use Rattle.splitter.specs.Step.{most_data, room_in, first_of, ShouldSplitIs};
 
-use builder::{CommandBuilder, ExpectedLen, ExtendedLen, Length};
+use basis::Refusal;
+use builder::{CommandBuilder, ExpectedLen, ExtendedLen};
 
 // The builder of the first part and how many bytes of the data it takes, and the builder of the rest.
 #[derive(Clone, Copy)]
@@ -13,84 +14,61 @@ pub struct Split {
     pub rest: CommandBuilder,
 }
 
-// The command fits as it is, or is split, or the refusal: 13 for data above 65,535 bytes, 14 for a buffer without room
-// for data (rule 4.6).
-#[derive(Clone, Copy)]
-pub enum ShouldSplit {
-    Whole,
-    Split(Split),
-    Refused(u8),
-}
-
 // The most data bytes of a part: 255 in short mode, else 65,535 (rule 4.1).
 fn most_data(mode: ExtendedLen) -> usize
     ensures { result ≡ most_data mode }
 {
     match mode {
         ExtendedLen::Unsupported => 255,
-        ExtendedLen::Supported => 65535,
-        ExtendedLen::Forced => 65535,
+        ExtendedLen::Supported | ExtendedLen::Forced => 65535,
     }
 }
 
 // The room for data in a buffer, next to this many other bytes; not below 0 (rule 4.1).
+#[tactic(auto, unfolding(crate::specs::Step::room_in))]
 fn room(mode: ExtendedLen, extra: usize, available: usize) -> usize
     ensures { result ≡ room_in mode extra available }
 {
-    if available < extra {
-        return 0;
-    }
-    let free = available - extra;
-    let most_data = most_data(mode);
-    if free <= most_data { free } else { most_data }
+    available.saturating_sub(extra).min(most_data(mode))
 }
 
 // The first part: class bit 0x10 set and Le 0, else as the command (rule 4.4).
 fn first(builder: CommandBuilder) -> CommandBuilder
     ensures { result ≡ first_of builder }
 {
-    let class = builder.class;
-    let mode = builder.mode;
-    let class = class.as_chained();
-    let le = ExpectedLen::Ne(0);
     CommandBuilder {
-        class,
-        instruction: builder.instruction,
-        p1: builder.p1,
-        p2: builder.p2,
-        le,
-        mode,
+        class: builder.class.as_chained(),
+        le: ExpectedLen::Ne(0),
+        ..builder
     }
 }
 
-// Whether a command with these data fits a buffer of this many bytes, and its two parts if it does not. The room counts
-// the bytes of Lc and Le for all remaining data, extended ones if they are over 255 bytes (rules 4.2 to 4.6).
-pub fn should_split(builder: CommandBuilder, data: &[u8], available: usize) -> ShouldSplit
+// Whether a command with these data fits a buffer of this many bytes (none), and its two parts if it does not. The room
+// counts the bytes of Lc and Le for all remaining data, extended ones if they are over 255 bytes (rules 4.2 to 4.6).
+// Refused are data above 65,535 bytes (13), and a buffer without room for data (14).
+#[tactic(auto, using(crate::proofs::Steps::length_refused, crate::proofs::Steps::data_counted, crate::proofs::Steps::small_refused, crate::proofs::Steps::whole_fits, crate::proofs::Steps::no_room_refused, crate::proofs::Steps::split_found))]
+pub fn should_split(
+    builder: CommandBuilder,
+    data: &[u8],
+    available: usize,
+) -> Result<Option<Split>, Refusal>
     ensures { ShouldSplitIs builder «data».now available result }
 {
-    match builder.required_len(data) {
-        Length::Refused(k) => ShouldSplit::Refused(k),
-        Length::Bytes(total) => {
-            if available < 4 {
-                return ShouldSplit::Refused(14);
-            }
-            let n = data.len();
-            let mode = builder.mode;
-            let extra = total - n;
-            let len = room(mode, extra, available);
-            if n <= len {
-                return ShouldSplit::Whole;
-            }
-            if len == 0 {
-                return ShouldSplit::Refused(14);
-            }
-            let first_part = first(builder);
-            let rest = builder.lowered();
-            ShouldSplit::Split(Split {
-                first: first_part,
-                len,
-                rest,
-            })
-        }
+    let total = builder.required_len(data)?;
+    if available < 4 {
+        return Err(Refusal::NoRoomForPiece);
     }
+    let n = data.len();
+    let len = room(builder.mode, total - n, available);
+    if n <= len {
+        return Ok(None);
+    }
+    if len == 0 {
+        return Err(Refusal::NoRoomForPiece);
+    }
+    Ok(Some(Split {
+        first: first(builder),
+        len,
+        rest: builder.lowered(),
+    }))
 }

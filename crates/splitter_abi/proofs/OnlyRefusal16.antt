@@ -1,6 +1,6 @@
 -- Once the pieces of a command are made, writing the next one is refused with 16 only.
 use Prim.Native.Nat.{ℕ, ◌+◌, ◌≤◌}
-use mathlib.Core.Path.{◌≡◌, refl, sym, subst}
+use mathlib.Core.Path.{◌≡◌, refl}
 use mathlib.Core.Bool.{Bool, true, false, cond}
 use mathlib.Core.List.{List}
 use mathlib.Core.Option.{Option, some}
@@ -8,6 +8,8 @@ use native.Mathlib.Omega.{arith}
 use borrow.Author.Tests.{le-ltb, ltb-false}
 use lib.Dec.{ltb, eqb}
 use lib.ListN.{length, take, drop, length-take, length-drop}
+use Rattle.std.specs.Prelude as std
+use Rattle.std.specs.Prelude.{Some, None}
 use Rattle.basis.specs.Reply.{Reply, ok, refused, then}
 use Rattle.basis.proofs.Reply.{All, all_is, all_cond, all_then}
 use Rattle.abi.specs.Answers.{too_short}
@@ -22,11 +24,9 @@ use Rattle.splitter.specs.declared.step.Split.{Split}
 use Rattle.splitter.specs.declared.pieces.Left.{Left}
 use Rattle.splitter.specs.declared.pieces.Piece.{Piece}
 use Rattle.splitter.specs.declared.pieces.Pieces.{Pieces}
-use Rattle.splitter.specs.declared.pieces.Pieces.TheVariants as pieces
 use Rattle.builder.proofs.Data.{new_few}
-use Rattle.splitter.proofs.Inside.{left_by_step}
 use Rattle.splitter.proofs.Steps.{never_refused}
-use Rattle.splitter_abi.specs.Numbers.{from_place, pieces_by_numbers}
+use Rattle.splitter_abi.specs.Numbers.{left_from_place, from_place, pieces_by_numbers}
 
 -- a value, or 16
 abbrev pub Only16 : {A : Type 0} → Reply A → Type 0
@@ -60,9 +60,10 @@ only_16_step (refused k) f h = absurd (h k refl)
 -- the next piece, and writing it
 module _ (d : List ℕ) (few : length d ≤ 65535) where
   only_16_left : (l : Left) → 10 ≤ l.available → Only16 (next_left_of l d)
+  unfolding next_left_of
   only_16_left l ten =
       let n = length (drop (place_in l d) d) in
-      subst (λ (x : Reply Piece). Only16 x) (sym (left_by_step l d (step_of l.builder n l.available) few refl))
+      rw (le-ltb 65535 (length d) few)
       (only_16_step (step_of l.builder n l.available) (piece_by l (place_in l d) n)
       (never_refused l.builder n l.available ten (omega (arith, length-drop (place_in l d) d))))
 
@@ -79,18 +80,27 @@ module _ (d : List ℕ) (few : length d ≤ 65535) where
     only_16_next (refused k) h = h
 
 -- pieces for a buffer of at least ten bytes and at most 65,535 data bytes
+abbrev LeftWithin : List ℕ → std.Option Left → Type 0
+LeftWithin d (Some l) = (length d ≤ 65535) × (10 ≤ l.available)
+LeftWithin d None = Unit {0}
+
 abbrev WithinLimits : List ℕ → Pieces → Type 0
-WithinLimits d (pieces.Left l) = (length d ≤ 65535) × (10 ≤ l.available)
-WithinLimits d pieces.Done = Unit {0}
+WithinLimits d x = LeftWithin d x.left
+
+only_16_within : (d : List ℕ) (m at : ℕ) (l : std.Option Left) → LeftWithin d l → Only16 (write_of (record { left = l }) d m at)
+only_16_within d m at (Some l) h = only_16_next d h.0 m at (next_left_of l d) (only_16_left d h.0 l h.1)
+only_16_within d m at None h = tt
 
 only_16_within_limits : (d : List ℕ) (m at : ℕ) (x : Pieces) → WithinLimits d x → Only16 (write_of x d m at)
-only_16_within_limits d m at (pieces.Left l) h = only_16_next d h.0 m at (next_left_of l d) (only_16_left d h.0 l h.1)
-only_16_within_limits d m at pieces.Done h = tt
+only_16_within_limits d m at x h = only_16_within d m at x.left h
 
 -- from any place of the data on
+place_within : (place : ℕ) (d : List ℕ) (l : std.Option Left) → LeftWithin d l → LeftWithin d (left_from_place place l)
+place_within place d (Some l) h = h
+place_within place d None h = tt
+
 place_within_limits : (place : ℕ) (d : List ℕ) (x : Pieces) → WithinLimits d x → WithinLimits d (from_place place x)
-place_within_limits place d (pieces.Left l) h = h
-place_within_limits place d pieces.Done h = tt
+place_within_limits place d x h = place_within place d x.left h
 
 -- pieces that are made are within these limits
 module _ (c i p q e m : ℕ) (d : List ℕ) where

@@ -1,6 +1,7 @@
 -- The numbers that are written for the host: of a step, of pieces and of the next piece. Rules 4.3 to 4.10 and 12.6.
-use Rattle.std.specs.Prelude.{ℕ, ◌≡◌, cond, List, [], ◌∷◌, eqb, length}
+use Rattle.std.specs.Prelude.{ℕ, ◌≡◌, Some, None, cond, List, [], ◌∷◌, eqb, length}
 use Rattle.std.proofs.Math.Option.{Option, none, some}
+use Rattle.std.specs.Prelude as std
 use Rattle.basis.specs.Reply.{Reply, ok, then, status}
 use Rattle.abi.specs.Answers.{if_long_enough, out_after}
 use Rattle.builder.specs.Bytes.{le_number}
@@ -9,7 +10,7 @@ use Rattle.splitter.specs.Step.{step_of}
 use Rattle.splitter.specs.Pieces.{new_pieces_of, next_of, write_of, piece_in, buffer_after}
 use Rattle.splitter.specs.declared.step.Split.{Split}
 use Rattle.splitter.specs.declared.pieces.Pieces.{Pieces}
-use Rattle.splitter.specs.declared.pieces.Pieces.TheVariants.{Left, Done}
+use Rattle.splitter.specs.declared.pieces.Left.{Left}
 use Rattle.splitter.specs.declared.pieces.Written.{Written}
 
 -- the row of a step: 1 if it splits, how many data bytes the first part takes, class byte and expected length of the
@@ -32,20 +33,26 @@ abbrev pub NewNonExtendedIs : ℕ → ℕ → ℕ → ℕ → List ℕ → ℕ �
 NewNonExtendedIs c i p q d e m r = r ≡ status (new_pieces_of c i p q (length d) e m)
 
 -- the pieces that are left from a place of the data on
+abbrev pub left_from_place : ℕ → std.Option Left → std.Option Left
+left_from_place at (Some l) = Some (record { builder = l.builder; at = at; available = l.available })
+left_from_place at None = None
+
 abbrev pub from_place : ℕ → Pieces → Pieces
-from_place at (Left l) = Left (record { builder = l.builder; at = at; available = l.available })
-from_place at Done = Done
+from_place at c = record { left = left_from_place at c.left }
 
 -- pieces by numbers: none left if done is not 0; else those that are left from a place of the data d on
 unfoldable pub pieces_by_numbers : ℕ → ℕ → ℕ → ℕ → ℕ → ℕ → ℕ → ℕ → List ℕ → Reply Pieces
 pieces_by_numbers c i p q e m at done d =
-    cond (eqb done 0) (then (new_pieces_of c i p q (length d) e m) (λ x. ok (from_place at x))) (ok Done)
+    cond (eqb done 0) (then (new_pieces_of c i p q (length d) e m) (λ x. ok (from_place at x))) (ok (record { left = None }))
 
 -- the row of a piece: 1, how many bytes it takes; then, if some of the command is left after it, 1, the place where the
 -- data that are left start, and the expected length; else zeros
+abbrev pub left_numbers : ℕ → std.Option Left → List ℕ
+left_numbers n (Some l) = 1 ∷ n ∷ 1 ∷ l.at ∷ le_number l.builder.le ∷ []
+left_numbers n None = 1 ∷ n ∷ 0 ∷ 0 ∷ 0 ∷ []
+
 abbrev pub piece_numbers : ℕ → Pieces → List ℕ
-piece_numbers n (Left l) = 1 ∷ n ∷ 1 ∷ l.at ∷ le_number l.builder.le ∷ []
-piece_numbers n Done = 1 ∷ n ∷ 0 ∷ 0 ∷ 0 ∷ []
+piece_numbers n c = left_numbers n c.left
 
 -- the row of the next piece; zeros if none is left
 abbrev pub written_numbers : Option Written → List ℕ

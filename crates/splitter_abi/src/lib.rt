@@ -1,42 +1,34 @@
 // What a host program calls to cut a command: one step, whether its pieces can be made, and the next piece (rule 12.6).
 // Each function replies 0, or the number of a refusal. Numbers are written into the slice `out` only if it replies 0.
+// Stays: a builder goes in as numbers, one by one, and what is replied goes out as numbers: the C interface.
 #![tactic(auto)]
 
 ghost use Rattle.std.specs.Prelude.{◌≡◌};
+ghost use Rattle.basis.specs.Refusal.{as_reply};
 ghost use Rattle.abi.specs.Answers.{NumbersWritten};
-ghost use Rattle.splitter.specs.Step.{as_reply as splitAsReply};
-ghost use Rattle.splitter.specs.Pieces.{new_as_reply, write_as_reply};
+ghost use Rattle.splitter.specs.Step.{as_reply as optionAsReply};
 ghost use Rattle.splitter_abi.specs.Numbers.{splitting, should_split_reply, NewNonExtendedIs, from_place, pieces_by_numbers};
 ghost use Rattle.splitter_abi.specs.Numbers.{piece_reply, written_reply, PieceWritten};
 
 use abi::{builder_by_numbers, expected_len_number, refusal_status, write_numbers};
-use builder::Built;
-use splitter::{Left, NewPieces, Pieces, ShouldSplit, WriteNext, Written};
+use basis::Refusal;
+use splitter::{Left, Pieces, Split, Written, should_split};
 
 // Writes the two parts of a command, or zeros if it is not split.
-fn write_split(answer: ShouldSplit, out: &mut [u64]) -> u8
-    ensures { NumbersWritten 6 (splitting (splitAsReply answer)) out.old result out.new }
+fn write_split(answer: Result<Option<Split>, Refusal>, out: &mut [u64]) -> u8
+    ensures { NumbersWritten 6 (splitting (optionAsReply answer)) out.old result out.new }
 {
     match answer {
-        ShouldSplit::Refused(k) => refusal_status(k, out.len(), 6),
-        ShouldSplit::Whole => {
-            let row = [0, 0, 0, 0, 0, 0];
-            write_numbers(&row, out)
-        }
-        ShouldSplit::Split(split) => {
-            let first = split.first;
-            let rest = split.rest;
-            let first_class = first.class;
-            let rest_class = rest.class;
-            let first_le = first.le;
-            let rest_le = rest.le;
+        Err(refusal) => refusal_status(refusal.number(), out.len(), 6),
+        Ok(None) => write_numbers(&[0, 0, 0, 0, 0, 0], out),
+        Ok(Some(split)) => {
             let row = [
                 1,
                 split.len as u64,
-                first_class.into_inner() as u64,
-                expected_len_number(first_le),
-                rest_class.into_inner() as u64,
-                expected_len_number(rest_le),
+                u64::from(split.first.class.into_inner()),
+                expected_len_number(split.first.le),
+                u64::from(split.rest.class.into_inner()),
+                expected_len_number(split.rest.le),
             ];
             write_numbers(&row, out)
         }
@@ -45,6 +37,7 @@ fn write_split(answer: ShouldSplit, out: &mut [u64]) -> u8
 
 // Writes 6 numbers for the host: 1, then data bytes, class and expected length of the first part, then class and
 // expected length of the rest; zeros if the command is not split (rules 4.3 to 4.6).
+#[tactic(auto, unfolding(crate::specs::Numbers::should_split_reply))]
 #[unsafe(no_mangle)]
 pub extern "C" fn gorvisclen_should_split(
     class: u8,
@@ -61,11 +54,8 @@ pub extern "C" fn gorvisclen_should_split(
         out.new }
 {
     match builder_by_numbers(class, instruction, p1, p2, le, mode, data) {
-        Built::Refused(k) => refusal_status(k, out.len(), 6),
-        Built::Builder(builder) => {
-            let answer = splitter::should_split(builder, data, available);
-            write_split(answer, out)
-        }
+        Err(refusal) => refusal_status(refusal.number(), out.len(), 6),
+        Ok(builder) => write_split(should_split(builder, data, available), out),
     }
 }
 
@@ -83,8 +73,8 @@ pub extern "C" fn gorvisclen_new_non_extended(
     ensures { NewNonExtendedIs class instruction p1 p2 «data».now le available result }
 {
     match Pieces::new_non_extended(class, instruction, p1, p2, data, le, available) {
-        NewPieces::Refused(k) => k,
-        NewPieces::Pieces(_) => 0,
+        Err(refusal) => refusal.number(),
+        Ok(_) => 0,
     }
 }
 
@@ -92,20 +82,13 @@ pub extern "C" fn gorvisclen_new_non_extended(
 fn from_place(pieces: Pieces, place: usize) -> Pieces
     ensures { result ≡ from_place place pieces }
 {
-    match pieces {
-        Pieces::Done => Pieces::Done,
-        Pieces::Left(left) => {
-            let builder = left.builder;
-            Pieces::Left(Left {
-                builder,
-                at: place,
-                available: left.available,
-            })
-        }
+    Pieces {
+        left: pieces.left.map(|left| Left { at: place, ..left }),
     }
 }
 
 // Pieces by numbers: none left if done is not 0, else those of the command that are left from a place of the data on.
+#[tactic(auto, unfolding(crate::specs::Numbers::pieces_by_numbers))]
 fn pieces_by_numbers(
     class: u8,
     instruction: u8,
@@ -116,54 +99,37 @@ fn pieces_by_numbers(
     place: usize,
     done: u8,
     data: &[u8],
-) -> NewPieces
-    ensures { new_as_reply result ≡ pieces_by_numbers class instruction p1 p2 le available place done «data».now }
+) -> Result<Pieces, Refusal>
+    ensures { as_reply result ≡ pieces_by_numbers class instruction p1 p2 le available place done «data».now }
 {
     if done != 0 {
-        return NewPieces::Pieces(Pieces::Done);
+        return Ok(Pieces { left: None });
     }
-    match Pieces::new_non_extended(class, instruction, p1, p2, data, le, available) {
-        NewPieces::Refused(k) => NewPieces::Refused(k),
-        NewPieces::Pieces(pieces) => NewPieces::Pieces(from_place(pieces, place)),
-    }
+    let pieces = Pieces::new_non_extended(class, instruction, p1, p2, data, le, available)?;
+    Ok(from_place(pieces, place))
 }
 
 // Writes the numbers of a piece and of what is left after it, zeros if nothing is.
 fn write_piece(written: Written, out: &mut [u64]) -> u8
     ensures { NumbersWritten 5 (piece_reply written) out.old result out.new }
 {
-    let rest = written.rest;
-    match rest {
-        Pieces::Done => {
-            let row = [1, written.len as u64, 0, 0, 0];
-            write_numbers(&row, out)
-        }
-        Pieces::Left(left) => {
-            let builder = left.builder;
-            let le = builder.le;
-            let row = [
-                1,
-                written.len as u64,
-                1,
-                left.at as u64,
-                expected_len_number(le),
-            ];
-            write_numbers(&row, out)
+    match written.rest.left {
+        None => write_numbers(&[1, written.len as u64, 0, 0, 0], out),
+        Some(left) => {
+            let le = expected_len_number(left.builder.le);
+            write_numbers(&[1, written.len as u64, 1, left.at as u64, le], out)
         }
     }
 }
 
 // Writes the numbers of the next piece, zeros if none is left.
-fn write_written(answer: WriteNext, out: &mut [u64]) -> u8
-    ensures { NumbersWritten 5 (written_reply (write_as_reply answer)) out.old result out.new }
+fn write_written(answer: Result<Option<Written>, Refusal>, out: &mut [u64]) -> u8
+    ensures { NumbersWritten 5 (written_reply (optionAsReply answer)) out.old result out.new }
 {
     match answer {
-        WriteNext::Refused(k) => refusal_status(k, out.len(), 5),
-        WriteNext::NoneLeft => {
-            let row = [0, 0, 0, 0, 0];
-            write_numbers(&row, out)
-        }
-        WriteNext::Written(written) => write_piece(written, out),
+        Err(refusal) => refusal_status(refusal.number(), out.len(), 5),
+        Ok(None) => write_numbers(&[0, 0, 0, 0, 0], out),
+        Ok(Some(written)) => write_piece(written, out),
     }
 }
 
@@ -188,10 +154,10 @@ pub extern "C" fn gorvisclen_write_next(
         «data».now at buffer.old out.old result buffer.new out.new }
 {
     match pieces_by_numbers(class, instruction, p1, p2, le, available, place, done, data) {
-        NewPieces::Refused(k) => refusal_status(k, out.len(), 5),
-        NewPieces::Pieces(pieces) => {
+        Err(not_made) => refusal_status(not_made.number(), out.len(), 5),
+        Ok(pieces) => {
             if out.len() < 5 {
-                return 16;
+                return Refusal::DoesNotFit.number();
             }
             let answer = pieces.write_next(data, buffer, at);
             write_written(answer, out)

@@ -10,6 +10,7 @@ use borrow.Author.Tests.{lt-ltb, le-ltb, ltb-false}
 use lib.Dec.{ltb}
 use lib.ListN.{length, take, drop, replicate, length-drop, length-map}
 use lib.Seq.{take-length, drop-drop}
+use Rattle.std.specs.Prelude.{Some, None}
 use Rattle.basis.specs.Reply.{Reply, ok, refused}
 use Rattle.basis.proofs.Reply.{refused_not_ok, All, all_is, all_cond, all_then, all_self}
 use Rattle.builder.specs.Builder.{new_of}
@@ -22,7 +23,6 @@ use Rattle.splitter.specs.Step.{room_of, first_of}
 use Rattle.splitter.specs.Pieces.{Part, parts, piece_of, pieces_of, new_pieces_of, next_left_of, next_of, bytes_of}
 use Rattle.splitter.specs.declared.pieces.Piece.{Piece}
 use Rattle.splitter.specs.declared.pieces.Pieces.{Pieces}
-use Rattle.splitter.specs.declared.pieces.Pieces.TheVariants as pieces
 use Rattle.splitter_laws.specs.Asked.{short_of, start_of, PiecesMade, bytes_in, answers, one_by_one, pieces_among, collected}
 use Rattle.splitter_laws.proofs.Cut.{step_whole, step_split, cut}
 
@@ -58,7 +58,7 @@ module _ (c i p q n e m : ℕ) where
         class = λ z. made.class (ap (λ (x : CommandBuilder). x.class.cla) made.fields ∙ z);
         few = made.few;
         ten = ltb-false m 10 g;
-        start = ap (λ (x : CommandBuilder). pieces.Left (record { builder = x; at = 0; available = m })) made.fields;
+        start = ap {B = Pieces} (λ (x : CommandBuilder). record { left = Some (record { builder = x; at = 0; available = m }) }) made.fields;
       }))
 
   pub pieces_made : (left : Pieces) → new_pieces_of c i p q n e m ≡ ok left → PiecesMade c i p q n e m left
@@ -71,20 +71,20 @@ none_left_only (ok (some p)) d e = cc e
 none_left_only (refused k) d e = absurd (refused_not_ok k none e)
 
 -- if nothing is left, every answer is "none left" (rule 4.9)
-none_left : (j : ℕ) (d : List ℕ) → answers j pieces.Done d ≡ replicate j (ok none)
+none_left : (j : ℕ) (d : List ℕ) → answers j (record { left = None }) d ≡ replicate j (ok none)
 unfolding answers
 none_left zero d = refl
 none_left (suc j) d = ap (λ (l : List (Reply (Option (List ℕ)))). ok none ∷ l) (none_left j d)
 
 -- what is left from a place of the data on
 abbrev left_at : CommandBuilder → ℕ → ℕ → Pieces
-left_at b at m = pieces.Left (record { builder = b; at = at; available = m })
+left_at b at m = record { left = Some (record { builder = b; at = at; available = m }) }
 
 -- one question, if the data left fit and if they are split
 module _ (d : List ℕ) (m : ℕ) (few : length d ≤ 65535) (ten : 10 ≤ m) (b : CommandBuilder) (at : ℕ) (inside : at ≤ length d)
   where
     ask_whole : length (drop at d) ≤ room_of b (length (drop at d)) m
-        → next_of (left_at b at m) d ≡ ok (some (record { builder = b; at = at; len = length (drop at d); rest = pieces.Done }))
+        → next_of (left_at b at m) d ≡ ok (some (record { builder = b; at = at; len = length (drop at d); rest = record { left = None } }))
     unfolding next_left_of
     ask_whole h =
         let n = length (drop at d) in

@@ -1,5 +1,5 @@
 -- What is answered when pieces are asked for again and again: each piece, then "none left" for ever. Rules 4.8 and 4.9.
-use Rattle.std.specs.Prelude.{ℕ, zero, suc, ◌≤◌, ◌≡◌, List, [], ◌∷◌, ◌++◌, map, replicate}
+use Rattle.std.specs.Prelude.{ℕ, zero, suc, Some, ◌≤◌, ◌≡◌, List, [], ◌∷◌, ◌++◌, map, replicate}
 use Rattle.std.proofs.Math.Option.{Option, none, some}
 use Rattle.basis.specs.Reply.{Reply, ok, refused}
 use Rattle.builder.specs.declared.CommandBuilder.{CommandBuilder}
@@ -8,7 +8,6 @@ use Rattle.builder.specs.declared.ExtendedLen.TheVariants.{Unsupported}
 use Rattle.splitter.specs.Pieces.{next_of, bytes_of}
 use Rattle.splitter.specs.declared.pieces.Piece.{Piece}
 use Rattle.splitter.specs.declared.pieces.Pieces.{Pieces}
-use Rattle.splitter.specs.declared.pieces.Pieces.TheVariants as pieces
 
 -- the builder of a command in short mode
 abbrev pub short_of : ℕ → ℕ → ℕ → ℕ → ℕ → CommandBuilder
@@ -17,7 +16,7 @@ short_of c i p q e =
 
 -- what is left before the first piece: the whole command
 abbrev pub start_of : ℕ → ℕ → ℕ → ℕ → ℕ → ℕ → Pieces
-start_of c i p q e m = pieces.Left (record { builder = short_of c i p q e; at = 0; available = m })
+start_of c i p q e m = record { left = Some (record { builder = short_of c i p q e; at = 0; available = m }) }
 
 -- what is made for n data bytes and a buffer of m bytes: the class byte is not 0xFF, and the whole command is left
 pub record PiecesMade (c i p q n e m : ℕ) (left : Pieces) : Type 0 where

@@ -5,7 +5,7 @@ use mathlib.Core.List.{List}
 use native.Mathlib.Nat.{zero-add}
 use native.Mathlib.Omega.{arith}
 use lib.Dec.{leb}
-use lib.ListN.{length, drop, length-drop}
+use lib.ListN.{length, take, drop, length-take, length-drop}
 use borrow.Author.Tests.{leb-true}
 use Rattle.basis.specs.Reply.{ok, refused}
 use Rattle.basis.proofs.Reply.{All, by_reply, all_is, all_cond, all_then, refused_not_ok}
@@ -90,6 +90,16 @@ next_within r s =
     let w = all_is (Fits (length (drop k s))) (object_of r (drop k s)) o (object_within r (drop k s)) e in
     rw e (omega (arith, w.0), omega (arith, w.1, length-drop k s, padding_within r s)))
     (λ n e. rw e tt)
+
+-- the same of an answer: a tag that is read, and the length after it
+pub tag_ends : (r : Reading) (s : List ℕ) (t : Tag) → ok t ≡ tag_of r s → t.size ≤ length s
+tag_ends r s t e = omega (arith, all_is (Tagged (length s)) (tag_of r s) t (tag_within r s) (sym e))
+
+pub len_ends : (r : Reading) (s : List ℕ) (k : ℕ) (l : Len) → ok l ≡ len_of r (take (length s - k) (drop k s)) → k ≤ length s
+    → k + l.size ≤ length s
+len_ends r s k l e h =
+    let rest = take (length s - k) (drop k s) in
+    omega (arith, all_is (Sized (length rest)) (len_of r rest) l (len_within r rest) (sym e), length-take (length s - k) (drop k s), h)
 
 -- the same in places: a tag and an object that are read lie in those bytes
 module _ (r : Reading) (s : List ℕ) where

@@ -1,11 +1,13 @@
 -- Padding lies in front of some bytes, and after it there is no more (rules 16.1 and 16.2).
-use Prim.Native.Nat.{ℕ, suc, ◌≤◌, ◌<◌}
-use mathlib.Core.Path.{◌≡◌, refl, sym, ◌∙◌}
+use Prim.Native.Nat.{ℕ, suc, ◌+◌, ◌≤◌, ◌<◌}
+use mathlib.Core.Path.{◌≡◌, refl, sym, ap, ◌∙◌}
 use mathlib.Core.List.{List, [], ◌∷◌}
 use native.Mathlib.Decide.{dec_le}
 use native.Mathlib.Omega.{arith}
 use lib.Dec.{leb, eqb}
-use lib.ListN.{length, get_or, drop}
+use lib.ListN.{length, get_or, drop, drop_of_length-le}
+use lib.Seq.{drop-cons}
+use native.Mathlib.Numerals.{add-one}
 use borrow.Author.Tests.{eq-eqb, ne_eqb, le-leb}
 use Rattle.basis.proofs.Truth.{on_cond}
 use Rattle.tlv.specs.Padding.{zeros, padding}
@@ -45,6 +47,16 @@ first_not_zero (b ∷ s) h e =
 pub zeros_of_none : (s : List ℕ) → length s < 1 → zeros s ≡ 0
 zeros_of_none [] h = zeros_nothing
 zeros_of_none (b ∷ s) h = absurd (omega arith)
+
+-- the count from place i on: at a zero byte, at another byte, and at the end
+pub at_zero : (s : List ℕ) (i : ℕ) → i < length s → get_or s i 0 ≡ 0 → zeros (drop i s) ≡ suc (zeros (drop (i + 1) s))
+at_zero s i h e = rw (drop-cons s i 0 h, add-one i) (zero_first (get_or s i 0) (drop (suc i) s) e)
+
+pub at_other : (s : List ℕ) (i : ℕ) → i < length s → (get_or s i 0 ≡ 0 → ⊥) → zeros (drop i s) ≡ 0
+at_other s i h n = rw (drop-cons s i 0 h) (other_first (get_or s i 0) (drop (suc i) s) n)
+
+pub at_end : (s : List ℕ) (i : ℕ) → length s ≤ i → zeros (drop i s) ≡ 0
+at_end s i h = ap zeros (drop_of_length-le s {i = i} h) ∙ zeros_nothing
 
 zeros_within : (s : List ℕ) → zeros s ≤ length s
 unfolding zeros

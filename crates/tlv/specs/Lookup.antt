@@ -1,14 +1,15 @@
 -- The lookup of a path (rules 6.10 to 6.15, 1.11 and 1.12), with the place where it ends and the number of tags that
 -- matched (rules 15.3 to 15.5).
-use Rattle.std.specs.Prelude.{ℕ, ◌+◌, ◌-◌, ◌≡◌, cond, List, [], ◌∷◌, eqb, length, take, drop}
+use Rattle.std.specs.Prelude.{ℕ, ◌+◌, ◌-◌, ◌≡◌, Result, Ok, Err, cond, List, [], ◌∷◌, eqb, length, take, drop}
 use Rattle.basis.specs.Reply.{Told, ok, refused, then}
-use Rattle.tlv.specs.Object.{Item, Stop}
+use Rattle.tlv.specs.Stop.{stop_number}
+use Rattle.tlv.specs.Object.{Item, Stop, stop_of}
 use Rattle.tlv.specs.Walk.{walk}
 use Rattle.tlv.specs.declared.Reading.{Reading}
-use Rattle.tlv.specs.declared.lookup.Sought.{Sought}
-use Rattle.tlv.specs.declared.lookup.Sought.TheVariants as sought
-use Rattle.tlv.specs.declared.lookup.GetDataObject.{GetDataObject}
-use Rattle.tlv.specs.declared.lookup.GetDataObject.TheVariants as get
+use Rattle.tlv.specs.declared.stop.StopAt.{StopAt}
+use Rattle.tlv.specs.declared.lookup.Span as code
+use Rattle.tlv.specs.declared.lookup.Found as code_found
+use Rattle.tlv.specs.declared.lookup.Halt as code_halt
 
 -- a part of a record: its place and its length
 pub record Span : Type 0 where
@@ -71,18 +72,16 @@ abbrev pub lookup : Reading → List ℕ → List ℕ → Told Halt Found
 lookup r s path = follow r s 0 (whole_record s) path
 
 -- an answer of the code as a reply, at one level and for the path
-abbrev pub sought_reply : Sought → Told Stop Span
-sought_reply (sought.Value a n) = ok (record { at = a; len = n })
-sought_reply (sought.End p) = refused (record { number = 11; place = p })
-sought_reply (sought.Unreadable p) = refused (record { number = 12; place = p })
+abbrev pub sought_reply : Result code.Span StopAt → Told Stop Span
+sought_reply (Ok p) = ok (record { at = p.at; len = p.len })
+sought_reply (Err e) = refused (stop_of e)
 
-abbrev pub as_reply : GetDataObject → Told Halt Found
-as_reply (get.Value a n m) = ok (record { at = a; len = n; matched = m })
-as_reply (get.End p m) = refused (record { number = 11; place = p; matched = m })
-as_reply (get.Unreadable p m) = refused (record { number = 12; place = p; matched = m })
+abbrev pub as_reply : Result code_found.Found code_halt.Halt → Told Halt Found
+as_reply (Ok p) = ok (record { at = p.at; len = p.len; matched = p.matched })
+as_reply (Err h) = refused (record { number = stop_number h.stop; place = h.place; matched = h.matched })
 
 -- the promise of `get_data_object`
-abbrev pub GetDataObjectIs : Reading → List ℕ → List ℕ → GetDataObject → Type 0
+abbrev pub GetDataObjectIs : Reading → List ℕ → List ℕ → Result code_found.Found code_halt.Halt → Type 0
 GetDataObjectIs r s path x = as_reply x ≡ lookup r s path
 
 -- the part that was found; its bytes, and no bytes if there is none (rule 6.15)

@@ -5,20 +5,20 @@ ghost use Rattle.tlv.specs.Padding.{zeros, padding};
 use crate::Reading;
 
 // How many zero bytes some bytes start with.
+#[tactic(auto, using(crate::proofs::Zeros::at_zero, crate::proofs::Zeros::at_other, crate::proofs::Zeros::at_end))]
 pub(crate) fn zeros(bytes: &[u8]) -> usize
     ensures { result ≡ zeros bytes.now }
 {
-    let mut i = 0;
-    while i < bytes.len() {
-        if bytes[i] != 0 {
+    for (i, b) in bytes.iter().enumerate() {
+        if *b != 0 {
             return i;
         }
-        i = i + 1;
     }
-    i
+    bytes.len()
 }
 
 // How many bytes of padding some bytes start with: zero bytes in the standard reading, none in the crate reading.
+#[tactic(auto, unfolding(crate::specs::Padding::padding))]
 pub(crate) fn padding(reading: Reading, bytes: &[u8]) -> usize
     ensures { result ≡ padding reading bytes.now }
 {
@@ -29,16 +29,15 @@ pub(crate) fn padding(reading: Reading, bytes: &[u8]) -> usize
 }
 
 // Whether some bytes start with a zero byte.
+#[tactic(auto, using(crate::proofs::Zeros::zeros_by_first, crate::proofs::Zeros::zeros_of_none))]
 fn starts_zero(bytes: &[u8]) -> bool
     ensures { result ≡ leb 1 (zeros bytes.now) }
 {
-    if bytes.len() < 1 {
-        return false;
-    }
-    bytes[0] == 0
+    matches!(bytes, [0, ..])
 }
 
 // Whether some bytes start with padding. Unlike `padding` this looks at the first byte only.
+#[tactic(auto, unfolding(crate::specs::Padding::padding))]
 pub(crate) fn starts_padded(reading: Reading, bytes: &[u8]) -> bool
     ensures { result ≡ leb 1 (padding reading bytes.now) }
 {

@@ -1,6 +1,6 @@
 -- What the exported writer leaves in the lent slices (rule 7.3).
 use Prim.Native.Nat.{ℕ, ◌+◌, ◌≤◌, ◌<◌}
-use mathlib.Core.Path.{◌≡◌, refl, sym, ap, ◌∙◌}
+use mathlib.Core.Path.{◌≡◌, refl, sym, ◌∙◌}
 use mathlib.Core.Bool.{Bool, true, false, cond}
 use mathlib.Core.List.{List, [], ◌∷◌, ◌++◌, append-nil}
 use native.Mathlib.Omega.{arith}
@@ -12,9 +12,9 @@ use Rattle.basis.specs.Reply.{Reply, ok, refused}
 use Rattle.basis.specs.Over.{over}
 use Rattle.basis.proofs.Reply.{refused_not_ok}
 use Rattle.abi.specs.Answers.{usable_len}
-use Rattle.tlv_write.specs.Written.{object_bytes, put_of, buffer_after, as_reply, PutDataObjectIs}
-use Rattle.tlv_write.specs.declared.PutDataObject.{PutDataObject}
-use Rattle.tlv_write.specs.declared.PutDataObject.TheVariants.{Written, Refused}
+use Rattle.tlv_write.specs.Written.{object_bytes, put_of, buffer_after, PutDataObjectIs}
+use Rattle.std.specs.Prelude.{Result}
+use Rattle.basis.specs.declared.refusal.Refusal.{Refusal}
 use Rattle.tlv_write.proofs.Objects.{object_some}
 use Rattle.tlv_abi.specs.Written.{writing, ObjectWritten}
 
@@ -48,7 +48,7 @@ some_room t v at m k e = by_length (ltb 65535 (length v)) e
     by_length false g = by_room (ltb m (at + length (object_bytes t v))) refl g
 
 -- an object is written into that part; the rest of the buffer follows it
-module _ (t v : List ℕ) (at : ℕ) (b out : List ℕ) (n : ℕ) (u : n ≡ usable_len (length b) (length out) 1) (x : PutDataObject)
+module _ (t v : List ℕ) (at : ℕ) (b out : List ℕ) (n : ℕ) (u : n ≡ usable_len (length b) (length out) 1) (x : Result ℕ Refusal)
     (ys : List ℕ) (p : PutDataObjectIs t v (take n b) at x ys) where
   abbrev reply : Reply ℕ
   reply = writing t v at (length b) (length out)
@@ -65,9 +65,6 @@ module _ (t v : List ℕ) (at : ℕ) (b out : List ℕ) (n : ℕ) (u : n ≡ usa
   same_by false e =
       let h = ltb-false (length out) 1 e in row t v at (length b) (length out) h ∙ rw (all h, take-length b)
 
-  same : reply ≡ as_reply x
-  same = same_by (ltb (length out) 1) refl ∙ sym p.reply
-
   -- a refusal leaves the part as it is, and so the buffer
   refused_by : (y : Reply ℕ) → put_of at 0 t v ≡ y → buffer_after y at t v [] ++ b ≡ buffer_after y at t v b
   refused_by (ok k) e = absurd (omega (arith, some_room t v at 0 k e))
@@ -83,21 +80,21 @@ module _ (t v : List ℕ) (at : ℕ) (b out : List ℕ) (n : ℕ) (u : n ≡ usa
       let gone : drop n b ≡ [] = drop_of_length-le b {i = n} (omega arith) in
       rw (row t v at (length b) (length out) h, p.buffer, gone, append-nil, k, take-length b)
 
-  pub write_refused : (k : ℕ) → x ≡ Refused k → ObjectWritten t v at b out k (ys ++ drop n b) out
+  pub write_refused : (k : ℕ) → refused k ≡ put_of at (length (take n b)) t v → ObjectWritten t v at b out k (ys ++ drop n b) out
   write_refused k e =
-      let f : reply ≡ refused k = same ∙ ap as_reply e in
+      let f : reply ≡ refused k = same_by (ltb (length out) 1) refl ∙ sym e in
       record { reply = rw f; bytes = bytes_by (ltb (length out) 1) refl; row = rw f }
 
-  pub count_has_place : (k : ℕ) → x ≡ Written k → 1 ≤ length out
+  pub count_has_place : (k : ℕ) → ok k ≡ put_of at (length (take n b)) t v → 1 ≤ length out
   count_has_place k e = count_has_place_by (ltb (length out) 1) refl
     where
       count_has_place_by : (c : Bool) → ltb (length out) 1 ≡ c → 1 ≤ length out
       count_has_place_by true f =
           let h = ltb-true (length out) 1 f in
-          absurd (omega (arith, some_room t v at 0 k (sym (no_row t v at (length b) (length out) h) ∙ same ∙ ap as_reply e)))
+          absurd (omega (arith, some_room t v at 0 k (sym (no_row t v at (length b) (length out) h) ∙ same_by (ltb (length out) 1) refl ∙ sym e)))
       count_has_place_by false f = ltb-false (length out) 1 f
 
-  pub object_written : (k : ℕ) (out' : List ℕ) → x ≡ Written k → out' ≡ over (k ∷ []) out → ObjectWritten t v at b out 0 (ys ++ drop n b) out'
+  pub object_written : (k : ℕ) (out' : List ℕ) → ok k ≡ put_of at (length (take n b)) t v → out' ≡ over (k ∷ []) out → ObjectWritten t v at b out 0 (ys ++ drop n b) out'
   object_written k out' e g =
-      let f : reply ≡ ok k = same ∙ ap as_reply e in
+      let f : reply ≡ ok k = same_by (ltb (length out) 1) refl ∙ sym e in
       record { reply = rw f; bytes = bytes_by (ltb (length out) 1) refl; row = rw f g }

@@ -14,31 +14,31 @@ use abi::{
     Numbers, copy_and_tell, tell_lookup, tell_row, tlv_reading_by_number, write_unless_refused,
 };
 use byte_slices::part;
-use tlv::{GetDataObject, TakeDataObject, TakeLen, TakeTag};
+use tlv::{DataObject, Found, Len, Stop, StopAt, Tag};
 pub use write::gorvisclen_put_data_object;
 
 // A tag as numbers.
-fn tag_numbers(taken: TakeTag) -> Numbers
+fn tag_numbers(taken: Result<Tag, Stop>) -> Numbers
     ensures { NumbersOf (tag_numbers (tag.as_reply taken)) result }
 {
     match taken {
-        TakeTag::End => Numbers(11, 0, 0),
-        TakeTag::Unreadable => Numbers(12, 0, 0),
-        TakeTag::Tag(tag, size) => Numbers(0, tag as u64, size as u64),
+        Ok(Tag { number, size }) => Numbers(0, u64::from(number), size as u64),
+        Err(stop) => Numbers(stop.number(), 0, 0),
     }
 }
 
 // A length as numbers.
-fn len_numbers(taken: TakeLen) -> Numbers
+fn len_numbers(taken: Result<Len, Stop>) -> Numbers
     ensures { NumbersOf (len_numbers (len.as_reply taken)) result }
 {
     match taken {
-        TakeLen::Unreadable => Numbers(12, 0, 0),
-        TakeLen::Len(len, size) => Numbers(0, len as u64, size as u64),
+        Ok(Len { number, size }) => Numbers(0, number as u64, size as u64),
+        Err(stop) => Numbers(stop.number(), 0, 0),
     }
 }
 
 // Writes 2 numbers: the tag, and how many bytes it takes (rules 6.1 to 6.4).
+#[tactic(auto, unfolding(crate::specs::Numbers::take_tag_reply))]
 #[unsafe(no_mangle)]
 pub extern "C" fn gorvisclen_take_tag(reading: u8, bytes: &[u8], out: &mut [u64]) -> u8
     ensures { NumbersWritten 2 (take_tag_reply reading bytes.now) out.old result out.new }
@@ -48,6 +48,7 @@ pub extern "C" fn gorvisclen_take_tag(reading: u8, bytes: &[u8], out: &mut [u64]
 }
 
 // Writes 2 numbers: the length, and how many bytes it takes (rule 6.6).
+#[tactic(auto, unfolding(crate::specs::Numbers::take_len_reply))]
 #[unsafe(no_mangle)]
 pub extern "C" fn gorvisclen_take_len(reading: u8, bytes: &[u8], out: &mut [u64]) -> u8
     ensures { NumbersWritten 2 (take_len_reply reading bytes.now) out.old result out.new }
@@ -58,6 +59,7 @@ pub extern "C" fn gorvisclen_take_len(reading: u8, bytes: &[u8], out: &mut [u64]
 
 // Reads the object at a place of a record. Writes 4 numbers: its place, its tag, the place of its value, and the length
 // of the value (rule 15.1). With 11 and 12 too: the place of the end or of the object, and three zeros (rule 15.2).
+#[tactic(auto, unfolding(crate::specs::Numbers::take_data_object_row))]
 #[unsafe(no_mangle)]
 pub extern "C" fn gorvisclen_take_data_object(
     reading: u8,
@@ -68,11 +70,17 @@ pub extern "C" fn gorvisclen_take_data_object(
     ensures { RowTold (take_data_object_row reading «record».now at) out.old result out.new }
 {
     match tlv::take_data_object(tlv_reading_by_number(reading), record, at) {
-        TakeDataObject::End(place) => tell_row(11, &[place as u64, 0, 0, 0], out),
-        TakeDataObject::Unreadable(place) => tell_row(12, &[place as u64, 0, 0, 0], out),
-        TakeDataObject::Object(place, tag, value, len) => tell_row(
+        Err(StopAt { stop, place }) => tell_row(stop.number(), &[place as u64, 0, 0, 0], out),
+        Ok(
+            DataObject {
+                place,
+                tag,
+                at,
+                len,
+            },
+        ) => tell_row(
             0,
-            &[place as u64, tag as u64, value as u64, len as u64],
+            &[place as u64, u64::from(tag), at as u64, len as u64],
             out,
         ),
     }
@@ -93,9 +101,8 @@ pub extern "C" fn gorvisclen_value(
 {
     let found = tlv::get_data_object(tlv_reading_by_number(reading), record, path);
     match found {
-        GetDataObject::End(_, _) => tell_lookup(found, out),
-        GetDataObject::Unreadable(_, _) => tell_lookup(found, out),
-        GetDataObject::Value(at, len, matched) => copy_and_tell(
+        Err(_) => tell_lookup(found, out),
+        Ok(Found { at, len, matched }) => copy_and_tell(
             part(record, at, len),
             to,
             &[at as u64, len as u64, matched as u64],

@@ -3,7 +3,7 @@ ghost use Rattle.std.specs.Prelude.{[], ◌∷◌};
 ghost use Rattle.tlv_abi.specs.Written.{ObjectWritten};
 
 use abi::usable_len;
-use tlv_write::{PutDataObject, put_data_object};
+use tlv_write::put_data_object;
 
 // Writes an object from a place of the buffer, and writes to `out` how many bytes it takes (rule 7.3). If `out` is too
 // short, the writer gets none of the buffer: so it refuses with 16, but tests 19 first.
@@ -22,8 +22,8 @@ pub extern "C" fn gorvisclen_put_data_object(
 {
     let end = usable_len(buffer.len(), out.len(), 1);
     match put_data_object([b1, b2, b3], value, &mut buffer[..end], at) {
-        PutDataObject::Refused(k) => k,
-        PutDataObject::Written(n) => {
+        Err(refusal) => refusal.number(),
+        Ok(n) => {
             out[0] = n as u64;
             0
         }

@@ -8,13 +8,15 @@ use native.Mathlib.Omega.{arith}
 use borrow.Author.Tests.{le-leb, lt-leb}
 use lib.ListN.{length, drop, get_or, drop_of_length-le}
 use lib.Seq.{drop-cons}
+use Rattle.std.specs.Prelude.{Result, Ok, Err}
+use Rattle.tlv.specs.declared.stop.Stop.{Stop}
 use Rattle.tlv_chunks.specs.Header.{first_of, byte_of}
-use Rattle.tlv_chunks.specs.Run.{head, end, refusal, headed, header_byte, step}
-use Rattle.tlv_chunks.specs.Call.{Call, later, after_byte, up_to_reply, take_of, Says, call_of, head_call, rest_call, value_call}
+use Rattle.tlv_chunks.specs.Run.{head, end, headed, header_byte, step}
+use Rattle.tlv_chunks.specs.Call.{Call, later, after_byte, up_to_reply, take_of, Says, call_of, stopped_call, head_call, rest_call, value_call}
 use Rattle.tlv_chunks.specs.declared.header.Header.{Header as Part}
 use Rattle.tlv_chunks.specs.declared.header.HeaderByte.{HeaderByte}
 use Rattle.tlv_chunks.specs.declared.header.HeaderByte.TheVariants as byte
-use Rattle.tlv_chunks.specs.declared.walk.ChunkWalk.TheVariants.{Boundary, Header, Value, Unreadable}
+use Rattle.tlv_chunks.specs.declared.walk.ChunkWalk.TheVariants.{Boundary, Header, Value}
 use Rattle.tlv_chunks.specs.declared.walk.ChunkTaken.{ChunkTaken}
 
 -- an answer says one call
@@ -22,10 +24,10 @@ pub call_said : (c : Call) (x : ChunkTaken) → Says c x → c ≡ call_of x
 call_said c x h = sym (λ i. record { tells = h.tells i; taken = h.taken i; walk = h.walk i })
 
 -- a call whose first byte is a byte of a header, by what that byte comes to
-first_byte : (h : Part) (b : ℕ) (s : List ℕ) (x : HeaderByte) → byte_of h b ≡ x
+first_byte : (h : Part) (b : ℕ) (s : List ℕ) (x : Result HeaderByte Stop) → byte_of h b ≡ x
     → up_to_reply (Header h) (b ∷ s) ≡ after_byte (header_byte x).tells (header_byte x).walk (up_to_reply (header_byte x).walk s)
 unfolding up_to_reply step
-first_byte h b s x e = ap (λ (x : HeaderByte). after_byte (header_byte x).tells (header_byte x).walk (up_to_reply (header_byte x).walk s)) e
+first_byte h b s x e = ap (λ (x : Result HeaderByte Stop). after_byte (header_byte x).tells (header_byte x).walk (up_to_reply (header_byte x).walk s)) e
 
 -- a header that is complete
 complete : (t n k : ℕ) (c : Call) → later k (after_byte (headed t n).tells (headed t n).walk c) ≡ head_call t n (k + 1)
@@ -34,22 +36,21 @@ complete t (suc n) k c = refl
 
 -- the byte of a header at a place of the chunk: the header goes on, is complete, or cannot be read; no byte is left
 module _ (h : Part) (s : List ℕ) (at : ℕ) where
-  by_byte : (x : HeaderByte) → at < length s → byte_of h (get_or s at 0) ≡ x
+  by_byte : (x : Result HeaderByte Stop) → at < length s → byte_of h (get_or s at 0) ≡ x
       → rest_call h s at ≡ later at (after_byte (header_byte x).tells (header_byte x).walk (up_to_reply (header_byte x).walk (drop (suc at) s)))
   by_byte x l e = rw (drop-cons s at 0 l) (ap (later at) (first_byte h (get_or s at 0) (drop (suc at) s) x e))
 
-  pub header_goes_on : (g : Part) → at < length s → byte_of h (get_or s at 0) ≡ byte.More g → rest_call h s at ≡ rest_call g s (at + 1)
+  pub header_goes_on : (g : Part) → at < length s → byte_of h (get_or s at 0) ≡ Ok (byte.More g) → rest_call h s at ≡ rest_call g s (at + 1)
   header_goes_on g l e =
       let c = up_to_reply (Header g) (drop (suc at) s) in
       let n : at + suc c.taken ≡ suc at + c.taken = omega arith in
-      by_byte (byte.More g) l e ∙ rw (add-one at) (λ i. record { tells = c.tells; taken = n i; walk = c.walk })
+      by_byte (Ok (byte.More g)) l e ∙ rw (add-one at) (λ i. record { tells = c.tells; taken = n i; walk = c.walk })
 
-  pub header_complete : (t n : ℕ) → at < length s → byte_of h (get_or s at 0) ≡ byte.Complete t n → rest_call h s at ≡ head_call t n (at + 1)
-  header_complete t n l e = by_byte (byte.Complete t n) l e ∙ complete t n at _
+  pub header_complete : (t n : ℕ) → at < length s → byte_of h (get_or s at 0) ≡ Ok (byte.Complete t n) → rest_call h s at ≡ head_call t n (at + 1)
+  header_complete t n l e = by_byte (Ok (byte.Complete t n)) l e ∙ complete t n at _
 
-  pub header_unreadable : at < length s → byte_of h (get_or s at 0) ≡ byte.Unreadable
-      → rest_call h s at ≡ record { tells = refusal 12 ∷ []; taken = at + 1; walk = Unreadable }
-  header_unreadable l e = by_byte byte.Unreadable l e
+  pub header_unreadable : (r : Stop) → at < length s → byte_of h (get_or s at 0) ≡ Err r → rest_call h s at ≡ stopped_call r (at + 1)
+  header_unreadable r l e = by_byte (Err r) l e
 
   pub header_used_up : length s ≤ at → rest_call h s at ≡ record { tells = []; taken = at; walk = Header h }
   unfolding up_to_reply

@@ -4,7 +4,10 @@ use mathlib.Core.Path.{◌≡◌, refl, ◌∙⁻¹◌}
 use mathlib.Core.Bool.{cond}
 use mathlib.Core.List.{List, [], ◌∷◌}
 use lib.Dec.{eqb}
+use Rattle.std.specs.Prelude.{Result, Ok, Err}
 use Rattle.basis.proofs.Reply.{apart}
+use Rattle.tlv.specs.declared.stop.Stop.{Stop}
+use Rattle.tlv.specs.declared.stop.Stop.TheVariants as stop
 use Rattle.tlv_chunks.specs.Run.{Event, head, end, refusal}
 use Rattle.tlv_chunks.specs.Call.{Call, events_of, Says, NewIs, TakeIs, CloseIs}
 use Rattle.tlv_chunks.specs.declared.walk.ChunkWalk.{ChunkWalk}
@@ -13,20 +16,20 @@ use Rattle.tlv_chunks.specs.declared.walk.TakeChunk.TheVariants as answer
 use Rattle.tlv_chunks.specs.declared.walk.ChunkTaken.{ChunkTaken}
 
 -- the way back from what is told to the answer, and that it leads back to the same answer
-abbrev back : List Event → TakeChunk
-back [] = answer.NeedMore
-back (head t n ∷ []) = answer.Head t n
-back (head t n ∷ e ∷ es) = answer.Empty t
-back (end ∷ es) = answer.ValueEnd
-back (refusal k ∷ es) = cond (eqb k 11) answer.End answer.Unreadable
+abbrev back : List Event → Result TakeChunk Stop
+back [] = Ok answer.NeedMore
+back (head t n ∷ []) = Ok (answer.Head t n)
+back (head t n ∷ e ∷ es) = Ok (answer.Empty t)
+back (end ∷ es) = Ok answer.ValueEnd
+back (refusal k ∷ es) = Err (cond (eqb k 11) stop.End stop.Unreadable)
 
-there_and_back : (x : TakeChunk) → back (events_of x) ≡ x
-there_and_back answer.NeedMore = refl
-there_and_back (answer.Head t n) = refl
-there_and_back (answer.Empty t) = refl
-there_and_back answer.ValueEnd = refl
-there_and_back answer.End = refl
-there_and_back answer.Unreadable = refl
+there_and_back : (x : Result TakeChunk Stop) → back (events_of x) ≡ x
+there_and_back (Ok answer.NeedMore) = refl
+there_and_back (Ok (answer.Head t n)) = refl
+there_and_back (Ok (answer.Empty t)) = refl
+there_and_back (Ok answer.ValueEnd) = refl
+there_and_back (Err stop.End) = refl
+there_and_back (Err stop.Unreadable) = refl
 
 one_answer : (c : Call) (x y : ChunkTaken) → Says c x → Says c y → x ≡ y
 one_answer c x y p q =

@@ -1,9 +1,12 @@
 -- The calls: a chunk that is handed in, and closing (rules 18.1, 18.6 and 18.7).
-use Rattle.std.specs.Prelude.{ℕ, suc, ◌+◌, ◌-◌, ◌≡◌, cond, List, [], ◌∷◌, leb, eqb, drop}
+use Rattle.std.specs.Prelude.{ℕ, suc, ◌+◌, ◌-◌, ◌≡◌, Result, Ok, Err, cond, List, [], ◌∷◌, leb, eqb, drop}
+use Rattle.tlv.specs.Stop.{stop_number}
+use Rattle.tlv.specs.declared.stop.Stop.{Stop}
+use Rattle.tlv.specs.declared.stop.Stop.TheVariants.{End, Unreadable}
 use Rattle.tlv_chunks.specs.Run.{Event, head, end, refusal, headed, step, closing}
 use Rattle.tlv_chunks.specs.declared.header.Header.{Header as Part}
 use Rattle.tlv_chunks.specs.declared.walk.ChunkWalk.{ChunkWalk}
-use Rattle.tlv_chunks.specs.declared.walk.ChunkWalk.TheVariants.{Boundary, Header, Value, End, Unreadable}
+use Rattle.tlv_chunks.specs.declared.walk.ChunkWalk.TheVariants.{Boundary, Header, Value, Stopped}
 use Rattle.tlv_chunks.specs.declared.walk.TakeChunk.{TakeChunk}
 use Rattle.tlv_chunks.specs.declared.walk.TakeChunk.TheVariants as answer
 use Rattle.tlv_chunks.specs.declared.walk.ChunkTaken.{ChunkTaken}
@@ -37,24 +40,22 @@ unfoldable pub take_of : ChunkWalk → List ℕ → Call
 take_of Boundary s = up_to_reply Boundary s
 take_of (Header h) s = up_to_reply (Header h) s
 take_of (Value n) s = up_to_reply (Value n) s
-take_of End s = repeated 11 End
-take_of Unreadable s = repeated 12 Unreadable
+take_of (Stopped e) s = repeated (stop_number e) (Stopped e)
 
 -- closing: the walk stops with its number (rule 18.6)
 abbrev pub stopped_with : ℕ → ChunkWalk
-stopped_with k = cond (eqb k 11) End Unreadable
+stopped_with k = Stopped (cond (eqb k 11) End Unreadable)
 
 abbrev pub close_of : ChunkWalk → Call
 close_of w = repeated (closing w) (stopped_with (closing w))
 
 -- what an answer of the code says
-abbrev pub events_of : TakeChunk → List Event
-events_of answer.NeedMore = []
-events_of (answer.Head t n) = head t n ∷ []
-events_of (answer.Empty t) = head t 0 ∷ end ∷ []
-events_of answer.ValueEnd = end ∷ []
-events_of answer.End = refusal 11 ∷ []
-events_of answer.Unreadable = refusal 12 ∷ []
+abbrev pub events_of : Result TakeChunk Stop → List Event
+events_of (Ok answer.NeedMore) = []
+events_of (Ok (answer.Head t n)) = head t n ∷ []
+events_of (Ok (answer.Empty t)) = head t 0 ∷ end ∷ []
+events_of (Ok answer.ValueEnd) = end ∷ []
+events_of (Err e) = refusal (stop_number e) ∷ []
 
 -- an answer that says what a call comes to
 pub record Says (c : Call) (x : ChunkTaken) : Type 0 where
@@ -76,10 +77,13 @@ CloseIs w x = Says (close_of w) x
 abbrev pub call_of : ChunkTaken → Call
 call_of x = record { tells = events_of x.answer; taken = x.taken; walk = x.walk }
 
--- for the private functions of `take`: an answer; a header that is complete after k bytes; a header from place k of a
--- chunk on; a value in a chunk of m bytes, in one step
+-- for the private functions of `take`: an answer; a stop after k bytes; a header that is complete after k bytes; a
+-- header from place k of a chunk on; a value in a chunk of m bytes, in one step
 abbrev pub answer_call : TakeChunk → ℕ → ChunkWalk → Call
-answer_call a k w = record { tells = events_of a; taken = k; walk = w }
+answer_call a k w = record { tells = events_of (Ok a); taken = k; walk = w }
+
+abbrev pub stopped_call : Stop → ℕ → Call
+stopped_call e k = record { tells = events_of (Err e); taken = k; walk = Stopped e }
 
 abbrev pub head_call : ℕ → ℕ → ℕ → Call
 head_call t n k = record { tells = (headed t n).tells; taken = k; walk = (headed t n).walk }

@@ -1,11 +1,13 @@
 -- A record byte by byte: what each byte tells, and the state of the walk after it (rules 18.1 to 18.7). `Value n` is the
 -- state in a value of which n + 1 bytes are missing.
-use Rattle.std.specs.Prelude.{ℕ, zero, suc, List, [], ◌∷◌, ◌++◌}
+use Rattle.std.specs.Prelude.{ℕ, zero, suc, Result, Ok, Err, List, [], ◌∷◌, ◌++◌}
+use Rattle.tlv.specs.Stop.{stop_number}
+use Rattle.tlv.specs.declared.stop.Stop.{Stop}
 use Rattle.tlv_chunks.specs.Header.{first_of, byte_of}
 use Rattle.tlv_chunks.specs.declared.header.HeaderByte.{HeaderByte}
 use Rattle.tlv_chunks.specs.declared.header.HeaderByte.TheVariants as byte
 use Rattle.tlv_chunks.specs.declared.walk.ChunkWalk.{ChunkWalk}
-use Rattle.tlv_chunks.specs.declared.walk.ChunkWalk.TheVariants.{Boundary, Header, Value, End, Unreadable}
+use Rattle.tlv_chunks.specs.declared.walk.ChunkWalk.TheVariants.{Boundary, Header, Value, Stopped}
 
 -- what is told: a tag and the length of its value, when the header is complete; the end, when the value is; a refusal,
 -- by its number and nothing else (rules 18.1 and 18.6)
@@ -29,10 +31,10 @@ headed t zero = record { tells = head t 0 ∷ end ∷ []; walk = Boundary }
 headed t (suc n) = record { tells = head t (suc n) ∷ []; walk = Value n }
 
 -- a byte of a header; if it cannot be read the walk stops with 12 (rule 18.4)
-abbrev pub header_byte : HeaderByte → Step
-header_byte (byte.More h) = nothing (Header h)
-header_byte (byte.Complete t n) = headed t n
-header_byte byte.Unreadable = record { tells = refusal 12 ∷ []; walk = Unreadable }
+abbrev pub header_byte : Result HeaderByte Stop → Step
+header_byte (Ok (byte.More h)) = nothing (Header h)
+header_byte (Ok (byte.Complete t n)) = headed t n
+header_byte (Err e) = record { tells = refusal (stop_number e) ∷ []; walk = Stopped e }
 
 -- a byte of a value, of which n are missing after it
 abbrev pub value_byte : ℕ → Step
@@ -44,8 +46,7 @@ unfoldable pub step : ChunkWalk → ℕ → Step
 step Boundary b = nothing (Header (first_of b))
 step (Header h) b = header_byte (byte_of h b)
 step (Value n) b = value_byte n
-step End b = nothing End
-step Unreadable b = nothing Unreadable
+step (Stopped e) b = nothing (Stopped e)
 
 -- a step x, after es were told
 abbrev pub following : List Event → Step → Step
@@ -62,5 +63,4 @@ abbrev pub closing : ChunkWalk → ℕ
 closing Boundary = 11
 closing (Header h) = 12
 closing (Value n) = 12
-closing End = 11
-closing Unreadable = 12
+closing (Stopped e) = stop_number e

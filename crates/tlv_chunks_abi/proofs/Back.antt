@@ -9,6 +9,9 @@ use lib.Dec.{leb, eqb}
 use Rattle.basis.specs.Number.{Bytes}
 use Rattle.basis.proofs.Truth.{on_cond}
 use Rattle.tlv.specs.Tag.{crate_tag_size, crate_third_byte}
+use Rattle.std.specs.Prelude.{Result, Ok, Err}
+use Rattle.tlv.specs.declared.stop.Stop.{Stop}
+use Rattle.tlv.specs.declared.stop.Stop.TheVariants as stop
 use Rattle.tlv_chunks.specs.Header.{first_of, second_of, third_of, length_of, byte_of}
 use Rattle.tlv_chunks.specs.Run.{Event, header_byte, step}
 use Rattle.tlv_chunks.specs.Call.{Call, after_byte, up_to_reply, take_of}
@@ -17,7 +20,7 @@ use Rattle.tlv_chunks.specs.declared.header.Header.TheVariants.{Tag1, Tag2, Tag,
 use Rattle.tlv_chunks.specs.declared.header.HeaderByte.{HeaderByte}
 use Rattle.tlv_chunks.specs.declared.header.HeaderByte.TheVariants as byte
 use Rattle.tlv_chunks.specs.declared.walk.ChunkWalk.{ChunkWalk}
-use Rattle.tlv_chunks.specs.declared.walk.ChunkWalk.TheVariants.{Boundary, Header, Value, End, Unreadable}
+use Rattle.tlv_chunks.specs.declared.walk.ChunkWalk.TheVariants.{Boundary, Header, Value, Stopped}
 use Rattle.tlv_chunks_abi.specs.Numbers.{length_by_numbers, header_by_numbers, walk_by_numbers, walk_numbers, walk_of}
 use Rattle.tlv_chunks_abi.specs.Numbers.{PartHoldsBytes, HoldsBytes}
 use Rattle.tlv_chunks_abi.proofs.States.{at_a_boundary, kind_1, kind_2, kind_3, kind_4, kind_5, kind_6}
@@ -43,8 +46,8 @@ pub numbers_there_and_back : (w : ChunkWalk) → HoldsBytes w → walk_of (walk_
 numbers_there_and_back Boundary p = at_a_boundary 0 0 0 refl
 numbers_there_and_back (Header h) p = header_back h p
 numbers_there_and_back (Value n) p = in_a_value 7 0 n refl
-numbers_there_and_back End p = stopped_with_11 8 0 0 refl
-numbers_there_and_back Unreadable p = stopped_with_12 9 0 0 (omega arith)
+numbers_there_and_back (Stopped stop.End) p = stopped_with_11 8 0 0 refl
+numbers_there_and_back (Stopped stop.Unreadable) p = stopped_with_12 9 0 0 (omega arith)
 
 -- two such states with the same numbers are one state
 pub numbers_apart : (v w : ChunkWalk) → HoldsBytes v → HoldsBytes w → walk_numbers v ≡ walk_numbers w → v ≡ w
@@ -79,17 +82,17 @@ module _ (k t n : ℕ) where
   unfolding walk_by_numbers
   state_bytes =
       let h = Header (header_by_numbers k t n) in
-      let stopped = cond (eqb k 8) End Unreadable in
+      let stopped = Stopped (cond (eqb k 8) stop.End stop.Unreadable) in
       let others = cond (eqb k 7) (Value n) stopped in
       chosen HoldsBytes (eqb k 0) Boundary (cond (leb k 6) h others) tt
       (chosen HoldsBytes (leb k 6) h others header_bytes
-      (chosen HoldsBytes (eqb k 7) (Value n) stopped tt (chosen HoldsBytes (eqb k 8) End Unreadable tt tt)))
+      (chosen HoldsBytes (eqb k 7) (Value n) stopped tt tt))
 
 -- a header and one byte more, if it goes on
-abbrev MoreHoldsBytes : HeaderByte → Type 0
-MoreHoldsBytes (byte.More h) = PartHoldsBytes h
-MoreHoldsBytes (byte.Complete t n) = Unit {0}
-MoreHoldsBytes byte.Unreadable = Unit {0}
+abbrev MoreHoldsBytes : Result HeaderByte Stop → Type 0
+MoreHoldsBytes (Ok (byte.More h)) = PartHoldsBytes h
+MoreHoldsBytes (Ok (byte.Complete t n)) = Unit {0}
+MoreHoldsBytes (Err e) = Unit {0}
 
 module _ (b : ℕ) (l : b < 256) where
   first_bytes : PartHoldsBytes (first_of b)
@@ -99,23 +102,23 @@ module _ (b : ℕ) (l : b < 256) where
   second_bytes : (a : ℕ) → a < 256 → MoreHoldsBytes (second_of a b)
   unfolding second_of
   second_bytes a p =
-      let last = byte.More (Tag (a * 256 + b)) in
-      let more = byte.More (Tag2 a b) in
-      chosen MoreHoldsBytes (eqb (crate_tag_size b) 0) byte.Unreadable (cond (eqb (crate_tag_size b) 2) last more) tt
+      let last = Ok (byte.More (Tag (a * 256 + b))) in
+      let more = Ok (byte.More (Tag2 a b)) in
+      chosen MoreHoldsBytes (eqb (crate_tag_size b) 0) (Err stop.Unreadable) (cond (eqb (crate_tag_size b) 2) last more) tt
       (chosen MoreHoldsBytes (eqb (crate_tag_size b) 2) last more tt (p, l))
 
   third_bytes : (a c : ℕ) → MoreHoldsBytes (third_of a c b)
   unfolding third_of
-  third_bytes a c = chosen MoreHoldsBytes (crate_third_byte b) (byte.More (Tag ((a * 256 + c) * 256 + b))) byte.Unreadable tt tt
+  third_bytes a c = chosen MoreHoldsBytes (crate_third_byte b) (Ok (byte.More (Tag ((a * 256 + c) * 256 + b)))) (Err stop.Unreadable) tt tt
 
   length_byte : (t : ℕ) → MoreHoldsBytes (length_of t b)
   unfolding length_of
   length_byte t =
-      let after-81 = byte.More (Length81 t) in
-      let after-82 = byte.More (Length82 t) in
-      let last = cond (eqb b 0x82) after-82 byte.Unreadable in
-      chosen MoreHoldsBytes (leb b 0x7F) (byte.Complete t b) (cond (eqb b 0x81) after-81 last) tt
-      (chosen MoreHoldsBytes (eqb b 0x81) after-81 last tt (chosen MoreHoldsBytes (eqb b 0x82) after-82 byte.Unreadable tt tt))
+      let after-81 = Ok (byte.More (Length81 t)) in
+      let after-82 = Ok (byte.More (Length82 t)) in
+      let last = cond (eqb b 0x82) after-82 (Err stop.Unreadable) in
+      chosen MoreHoldsBytes (leb b 0x7F) (Ok (byte.Complete t b)) (cond (eqb b 0x81) after-81 last) tt
+      (chosen MoreHoldsBytes (eqb b 0x81) after-81 last tt (chosen MoreHoldsBytes (eqb b 0x82) after-82 (Err stop.Unreadable) tt tt))
 
   next_bytes : (h : Part) → PartHoldsBytes h → MoreHoldsBytes (byte_of h b)
   unfolding byte_of
@@ -126,11 +129,11 @@ module _ (b : ℕ) (l : b < 256) where
   next_bytes (Length82 t) p = l
   next_bytes (Length82High t a) p = tt
 
-  after_header : (x : HeaderByte) → MoreHoldsBytes x → HoldsBytes (header_byte x).walk
-  after_header (byte.More h) p = p
-  after_header (byte.Complete t zero) p = tt
-  after_header (byte.Complete t (suc n)) p = tt
-  after_header byte.Unreadable p = tt
+  after_header : (x : Result HeaderByte Stop) → MoreHoldsBytes x → HoldsBytes (header_byte x).walk
+  after_header (Ok (byte.More h)) p = p
+  after_header (Ok (byte.Complete t zero)) p = tt
+  after_header (Ok (byte.Complete t (suc n))) p = tt
+  after_header (Err e) p = tt
 
   step_bytes : (w : ChunkWalk) → HoldsBytes w → HoldsBytes (step w b).walk
   unfolding step
@@ -138,8 +141,7 @@ module _ (b : ℕ) (l : b < 256) where
   step_bytes (Header h) p = after_header (byte_of h b) (next_bytes h p)
   step_bytes (Value zero) p = tt
   step_bytes (Value (suc n)) p = tt
-  step_bytes End p = tt
-  step_bytes Unreadable p = tt
+  step_bytes (Stopped e) p = tt
 
 after_bytes : (es : List Event) (w : ChunkWalk) (c : Call) → HoldsBytes w → HoldsBytes c.walk → HoldsBytes (after_byte es w c).walk
 after_bytes [] w c p q = q
@@ -158,8 +160,7 @@ unfolding take_of
 take_bytes Boundary s p q = up_bytes Boundary s p q
 take_bytes (Header h) s p q = up_bytes (Header h) s p q
 take_bytes (Value n) s p q = up_bytes (Value n) s p q
-take_bytes End s p q = tt
-take_bytes Unreadable s p q = tt
+take_bytes (Stopped e) s p q = tt
 
 -- the three numbers after a chunk stand for the state after it: the next call goes on there
 pub state_handed_back : (k t n : ℕ) (s : List ℕ) → Bytes s

@@ -11,6 +11,8 @@ use Rattle.basis.specs.Over.{over}
 use Rattle.abi.specs.Answers.{short_status, RowTold}
 use Rattle.abi.proofs.AnswerLaws.{row_fits, row_does_not_fit, told_as}
 use Rattle.tlv.specs.Tag.{crate_tag_size, crate_third_byte}
+use Rattle.std.specs.Prelude.{Ok, Err}
+use Rattle.tlv.specs.declared.stop.Stop.TheVariants as stop
 use Rattle.tlv_chunks.specs.Header.{first_of, byte_of}
 use Rattle.tlv_chunks.specs.Run.{Event, head, end, refusal}
 use Rattle.tlv_chunks.specs.Call.{Call, repeated, take_of, close_of, head_call, rest_call, value_call}
@@ -18,7 +20,7 @@ use Rattle.tlv_chunks.specs.declared.header.Header.{Header as Part}
 use Rattle.tlv_chunks.specs.declared.header.Header.TheVariants.{Tag1, Tag2, Tag, Length81, Length82, Length82High}
 use Rattle.tlv_chunks.specs.declared.header.HeaderByte.TheVariants as byte
 use Rattle.tlv_chunks.specs.declared.walk.ChunkWalk.{ChunkWalk}
-use Rattle.tlv_chunks.specs.declared.walk.ChunkWalk.TheVariants.{Boundary, Header, Value, End, Unreadable}
+use Rattle.tlv_chunks.specs.declared.walk.ChunkWalk.TheVariants.{Boundary, Header, Value, Stopped}
 use Rattle.tlv_chunks.proofs.Headers.{first_alone, first_of_more, second_refused, second_last, second_of_three, third_last, third_refused}
 use Rattle.tlv_chunks.proofs.Headers.{length_alone, length_81, length_82, length_refused, after_81, high_after_82, low_after_82}
 use Rattle.tlv_chunks.proofs.Calls.{header_goes_on, header_complete, header_unreadable, header_used_up, from_the_start, no_byte, header_starts}
@@ -93,25 +95,25 @@ module _ (k t n : ℕ) (s out : List ℕ) (r : ℕ) (out' : List ℕ) (p : Chunk
     stop_with_12_not_told e = let c = call (refusal 12 ∷ []) m w in not_told c out r out' (as_call c e) h
 
   -- kind 8, and kinds 9 and above, have stopped: every chunk gets their number, no byte is taken, and the state stays
-  at_11 : k ≡ 8 → take_of (walk_by_numbers k t n) s ≡ repeated 11 End
+  at_11 : k ≡ 8 → take_of (walk_by_numbers k t n) s ≡ repeated 11 (Stopped stop.End)
   unfolding take_of
   at_11 e = ap (λ w. take_of w s) (stopped_with_11 k t n e)
 
-  at_12 : 9 ≤ k → take_of (walk_by_numbers k t n) s ≡ repeated 12 Unreadable
+  at_12 : 9 ≤ k → take_of (walk_by_numbers k t n) s ≡ repeated 12 (Stopped stop.Unreadable)
   unfolding take_of
   at_12 g = ap (λ w. take_of w s) (stopped_with_12 k t n g)
 
   pub kind_8_repeats_11 : k ≡ 8 → 8 ≤ length out → (r ≡ 11) × (out' ≡ over (0 ∷ 0 ∷ 0 ∷ 0 ∷ 0 ∷ 8 ∷ 0 ∷ 0 ∷ []) out)
-  kind_8_repeats_11 e h = refusal_told h 11 0 End (at_11 e)
+  kind_8_repeats_11 e h = refusal_told h 11 0 (Stopped stop.End) (at_11 e)
 
   pub kind_9_repeats_12 : 9 ≤ k → 8 ≤ length out → (r ≡ 12) × (out' ≡ over (0 ∷ 0 ∷ 0 ∷ 0 ∷ 0 ∷ 9 ∷ 0 ∷ 0 ∷ []) out)
-  kind_9_repeats_12 g h = refusal_told h 12 0 Unreadable (at_12 g)
+  kind_9_repeats_12 g h = refusal_told h 12 0 (Stopped stop.Unreadable) (at_12 g)
 
   pub kind_8_without_row : k ≡ 8 → length out < 8 → (r ≡ 11) × (out' ≡ out)
-  kind_8_without_row e h = stop_with_11_not_told h 0 End (at_11 e)
+  kind_8_without_row e h = stop_with_11_not_told h 0 (Stopped stop.End) (at_11 e)
 
   pub kind_9_without_row : 9 ≤ k → length out < 8 → (r ≡ 12) × (out' ≡ out)
-  kind_9_without_row g h = stop_with_12_not_told h 0 Unreadable (at_12 g)
+  kind_9_without_row g h = stop_with_12_not_told h 0 (Stopped stop.Unreadable) (at_12 g)
 
   -- kind 7, in a value of which n + 1 bytes are missing: all bytes of the chunk belong to it, or it ends in the chunk
   in_value : (c : Call) → k ≡ 7 → value_call n (length s) ≡ c → take_of (walk_by_numbers k t n) s ≡ c
@@ -139,27 +141,27 @@ module _ (a : ℕ) where
     two_bytes : (h : Part) → first_of a ≡ h → take_of Boundary (a ∷ b ∷ s) ≡ rest_call h (a ∷ b ∷ s) 1
     two_bytes h e = header_starts (a ∷ b ∷ s) (omega arith) ∙ ap (λ h. rest_call h (a ∷ b ∷ s) 1) e
 
-    two_complete : (h : Part) (u l : ℕ) → first_of a ≡ h → byte_of h b ≡ byte.Complete u l → take_of Boundary (a ∷ b ∷ s) ≡ head_call u l 2
+    two_complete : (h : Part) (u l : ℕ) → first_of a ≡ h → byte_of h b ≡ Ok (byte.Complete u l) → take_of Boundary (a ∷ b ∷ s) ≡ head_call u l 2
     two_complete h u l e f = two_bytes h e ∙ header_complete h (a ∷ b ∷ s) 1 u l (omega arith) f
 
-    two_unreadable : (h : Part) → first_of a ≡ h → byte_of h b ≡ byte.Unreadable
-        → take_of Boundary (a ∷ b ∷ s) ≡ call (refusal 12 ∷ []) 2 Unreadable
-    two_unreadable h e f = two_bytes h e ∙ header_unreadable h (a ∷ b ∷ s) 1 (omega arith) f
+    two_unreadable : (h : Part) → first_of a ≡ h → byte_of h b ≡ Err stop.Unreadable
+        → take_of Boundary (a ∷ b ∷ s) ≡ call (refusal 12 ∷ []) 2 (Stopped stop.Unreadable)
+    two_unreadable h e f = two_bytes h e ∙ header_unreadable h (a ∷ b ∷ s) 1 stop.Unreadable (omega arith) f
 
 module _ (h : Part) (b : ℕ) where
-  next_goes_on : (g : Part) → byte_of h b ≡ byte.More g → take_of (Header h) (b ∷ []) ≡ call [] 1 (Header g)
+  next_goes_on : (g : Part) → byte_of h b ≡ Ok (byte.More g) → take_of (Header h) (b ∷ []) ≡ call [] 1 (Header g)
   unfolding take_of
   next_goes_on g e =
       let s = b ∷ [] in
       from_the_start h s ∙ header_goes_on h s 0 g (omega arith) e ∙ header_used_up g s 1 (omega arith)
 
-  next_complete : (s : List ℕ) (u l : ℕ) → byte_of h b ≡ byte.Complete u l → take_of (Header h) (b ∷ s) ≡ head_call u l 1
+  next_complete : (s : List ℕ) (u l : ℕ) → byte_of h b ≡ Ok (byte.Complete u l) → take_of (Header h) (b ∷ s) ≡ head_call u l 1
   unfolding take_of
   next_complete s u l e = from_the_start h (b ∷ s) ∙ header_complete h (b ∷ s) 0 u l (omega arith) e
 
-  next_unreadable : (s : List ℕ) → byte_of h b ≡ byte.Unreadable → take_of (Header h) (b ∷ s) ≡ call (refusal 12 ∷ []) 1 Unreadable
+  next_unreadable : (s : List ℕ) → byte_of h b ≡ Err stop.Unreadable → take_of (Header h) (b ∷ s) ≡ call (refusal 12 ∷ []) 1 (Stopped stop.Unreadable)
   unfolding take_of
-  next_unreadable s e = from_the_start h (b ∷ s) ∙ header_unreadable h (b ∷ s) 0 (omega arith) e
+  next_unreadable s e = from_the_start h (b ∷ s) ∙ header_unreadable h (b ∷ s) 0 stop.Unreadable (omega arith) e
 
 -- with a row of 8 numbers or more
 module _ (t n : ℕ) (out : List ℕ) (h : 8 ≤ length out) (r : ℕ) (out' : List ℕ) where
@@ -195,25 +197,25 @@ module _ (t n : ℕ) (out : List ℕ) (h : 8 ≤ length out) (r : ℕ) (out' : L
         pub kind_0_unreadable : 0x7F < b → (b ≡ 0x81 → ⊥) → (b ≡ 0x82 → ⊥)
             → (r ≡ 12) × (out' ≡ over (0 ∷ 0 ∷ 0 ∷ 0 ∷ 2 ∷ 9 ∷ 0 ∷ 0 ∷ []) out)
         kind_0_unreadable l m q =
-            let c = call (refusal 12 ∷ []) 2 Unreadable in
+            let c = call (refusal 12 ∷ []) 2 (Stopped stop.Unreadable) in
             let e = two_unreadable a b s (Tag a) (first_alone a g) (length_refused a b l m q) in
-            refusal_told 0 t n (a ∷ b ∷ s) out r out' p h 12 2 Unreadable (start (a ∷ b ∷ s) c e)
+            refusal_told 0 t n (a ∷ b ∷ s) out r out' p h 12 2 (Stopped stop.Unreadable) (start (a ∷ b ∷ s) c e)
 
   -- from kinds 1 to 6, in a header: the next byte
   module _ (k : ℕ) (x : Part) (e : walk_by_numbers k t n ≡ Header x) (b : ℕ) where
-    goes_on : (g : Part) → byte_of x b ≡ byte.More g → ChunkTold k t n (b ∷ []) out r out'
+    goes_on : (g : Part) → byte_of x b ≡ Ok (byte.More g) → ChunkTold k t n (b ∷ []) out r out'
         → (r ≡ 0) × (out' ≡ over (0 ∷ 0 ∷ 0 ∷ 0 ∷ 1 ∷ walk_numbers (Header g)) out)
     goes_on g f p =
         let s = b ∷ [] in more_needed k t n s out r out' p h 1 (Header g) (ap (λ w. take_of w s) e ∙ next_goes_on x b g f)
 
     module _ (s : List ℕ) (p : ChunkTold k t n (b ∷ s) out r out') where
-      complete : (u l : ℕ) → byte_of x b ≡ byte.Complete u l → (r ≡ 0) × (out' ≡ over (head_row u l 1) out)
+      complete : (u l : ℕ) → byte_of x b ≡ Ok (byte.Complete u l) → (r ≡ 0) × (out' ≡ over (head_row u l 1) out)
       complete u l f =
           complete_told k t n (b ∷ s) out r out' p h u l 1 (ap (λ w. take_of w (b ∷ s)) e ∙ next_complete x b s u l f)
 
-      unreadable : byte_of x b ≡ byte.Unreadable → (r ≡ 12) × (out' ≡ over (0 ∷ 0 ∷ 0 ∷ 0 ∷ 1 ∷ 9 ∷ 0 ∷ 0 ∷ []) out)
+      unreadable : byte_of x b ≡ Err stop.Unreadable → (r ≡ 12) × (out' ≡ over (0 ∷ 0 ∷ 0 ∷ 0 ∷ 1 ∷ 9 ∷ 0 ∷ 0 ∷ []) out)
       unreadable f =
-          refusal_told k t n (b ∷ s) out r out' p h 12 1 Unreadable (ap (λ w. take_of w (b ∷ s)) e ∙ next_unreadable x b s f)
+          refusal_told k t n (b ∷ s) out r out' p h 12 1 (Stopped stop.Unreadable) (ap (λ w. take_of w (b ∷ s)) e ∙ next_unreadable x b s f)
 
   module _ (b : ℕ) where
     pub kind_1_tag : crate_tag_size b ≡ 2 → ChunkTold 1 t n (b ∷ []) out r out'
@@ -291,8 +293,8 @@ module _ (k t n : ℕ) (out : List ℕ) (r : ℕ) (out' : List ℕ) (p : CloseTo
 
   pub closed_after_11 : k ≡ 8
       → (r ≡ 11) × (8 ≤ length out → out' ≡ over (0 ∷ 0 ∷ 0 ∷ 0 ∷ 0 ∷ 8 ∷ 0 ∷ 0 ∷ []) out) × (length out < 8 → out' ≡ out)
-  closed_after_11 e = closed End 11 (stopped_with_11 k t n e) refl refl
+  closed_after_11 e = closed (Stopped stop.End) 11 (stopped_with_11 k t n e) refl refl
 
   pub closed_after_12 : 9 ≤ k
       → (r ≡ 12) × (8 ≤ length out → out' ≡ over (0 ∷ 0 ∷ 0 ∷ 0 ∷ 0 ∷ 9 ∷ 0 ∷ 0 ∷ []) out) × (length out < 8 → out' ≡ out)
-  closed_after_12 h = closed Unreadable 12 (stopped_with_12 k t n h) refl refl
+  closed_after_12 h = closed (Stopped stop.Unreadable) 12 (stopped_with_12 k t n h) refl refl

@@ -5,12 +5,13 @@ use mathlib.Core.List.{List, [], ◌∷◌, ◌++◌}
 use lib.ListN.{length, get_or}
 use Rattle.abi.specs.Answers.{Row, row, RowTold}
 use Rattle.abi.proofs.AnswerLaws.{told_as}
+use Rattle.tlv.specs.declared.stop.Stop.TheVariants as stop
 use Rattle.tlv_chunks.specs.Run.{Event, head, end, refusal}
 use Rattle.tlv_chunks.specs.Call.{Call, Says, take_of, close_of}
 use Rattle.tlv_chunks.specs.declared.header.Header.{Header as Part}
 use Rattle.tlv_chunks.specs.declared.header.Header.TheVariants.{Tag1, Tag2, Tag, Length81, Length82, Length82High}
 use Rattle.tlv_chunks.specs.declared.walk.ChunkWalk.{ChunkWalk}
-use Rattle.tlv_chunks.specs.declared.walk.ChunkWalk.TheVariants.{Boundary, Header, Value, End, Unreadable}
+use Rattle.tlv_chunks.specs.declared.walk.ChunkWalk.TheVariants.{Boundary, Header, Value, Stopped}
 use Rattle.tlv_chunks.specs.declared.walk.ChunkTaken.{ChunkTaken}
 use Rattle.tlv_chunks.proofs.Calls.{call_said}
 use Rattle.tlv_chunks_abi.specs.Numbers.{walk_by_numbers, header_numbers, walk_numbers, told_status, told_numbers, row_of}
@@ -42,8 +43,8 @@ three_of_walk : (w : ChunkWalk) → three_of (walk_numbers w) ≡ walk_numbers w
 three_of_walk Boundary = refl
 three_of_walk (Header h) = three_of_header h
 three_of_walk (Value n) = refl
-three_of_walk End = refl
-three_of_walk Unreadable = refl
+three_of_walk (Stopped stop.End) = refl
+three_of_walk (Stopped stop.Unreadable) = refl
 
 -- a row has eight numbers
 eight_by : (es : List Event) (k : ℕ) (vs : List ℕ) → length (told_numbers es ++ (k ∷ three_of vs)) ≡ 8

@@ -3,9 +3,10 @@ use Prim.Native.Nat.{ℕ, ◌/◌, ◌%◌, ◌≤◌}
 use mathlib.Core.Path.{◌≡◌, refl, ap, ◌∙◌}
 use native.Mathlib.Omega.{arith}
 use borrow.Author.Tests.{le-leb, lt-leb, eq-eqb, ne_eqb}
+use Rattle.tlv.specs.declared.stop.Stop.TheVariants as stop
 use Rattle.tlv_chunks.specs.declared.header.Header.{Header as Part}
 use Rattle.tlv_chunks.specs.declared.header.Header.TheVariants.{Tag1, Tag2, Tag, Length81, Length82, Length82High}
-use Rattle.tlv_chunks.specs.declared.walk.ChunkWalk.TheVariants.{Boundary, Header, Value, End, Unreadable}
+use Rattle.tlv_chunks.specs.declared.walk.ChunkWalk.TheVariants.{Boundary, Header, Value, Stopped}
 use Rattle.tlv_chunks_abi.specs.Numbers.{length_by_numbers, header_by_numbers, walk_by_numbers}
 
 module _ (k t n : ℕ) where
@@ -52,11 +53,11 @@ module _ (k t n : ℕ) where
   unfolding walk_by_numbers
   in_a_value e = rw (ne_eqb k 0 (λ f. omega arith), lt-leb k 6 (omega arith), eq-eqb k 7 e)
 
-  pub stopped_with_11 : k ≡ 8 → walk_by_numbers k t n ≡ End
+  pub stopped_with_11 : k ≡ 8 → walk_by_numbers k t n ≡ Stopped stop.End
   unfolding walk_by_numbers
   stopped_with_11 e = rw (ne_eqb k 0 (λ f. omega arith), lt-leb k 6 (omega arith), ne_eqb k 7 (λ f. omega arith), eq-eqb k 8 e)
 
-  pub stopped_with_12 : 9 ≤ k → walk_by_numbers k t n ≡ Unreadable
+  pub stopped_with_12 : 9 ≤ k → walk_by_numbers k t n ≡ Stopped stop.Unreadable
   unfolding walk_by_numbers
   stopped_with_12 h =
       rw (ne_eqb k 0 (λ f. omega arith), lt-leb k 6 (omega arith), ne_eqb k 7 (λ f. omega arith), ne_eqb k 8 (λ f. omega arith))

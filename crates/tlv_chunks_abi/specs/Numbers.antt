@@ -1,12 +1,13 @@
 -- A record that comes in chunks, for a host: the states of the walk and what a call tells as numbers (rule 18.10).
 use Rattle.std.specs.Prelude.{ℕ, ◌+◌, ◌*◌, ◌/◌, ◌%◌, ◌<◌, cond, List, [], ◌∷◌, ◌++◌, eqb, leb, get_or}
 use Rattle.abi.specs.Answers.{Row, row, RowTold}
+use Rattle.tlv.specs.declared.stop.Stop.TheVariants as stop
 use Rattle.tlv_chunks.specs.Run.{Event, head, end, refusal}
 use Rattle.tlv_chunks.specs.Call.{Call, take_of, close_of, call_of}
 use Rattle.tlv_chunks.specs.declared.header.Header.{Header as Part}
 use Rattle.tlv_chunks.specs.declared.header.Header.TheVariants.{Tag1, Tag2, Tag, Length81, Length82, Length82High}
 use Rattle.tlv_chunks.specs.declared.walk.ChunkWalk.{ChunkWalk}
-use Rattle.tlv_chunks.specs.declared.walk.ChunkWalk.TheVariants.{Boundary, Header, Value, End, Unreadable}
+use Rattle.tlv_chunks.specs.declared.walk.ChunkWalk.TheVariants.{Boundary, Header, Value, Stopped}
 use Rattle.tlv_chunks.specs.declared.walk.ChunkTaken.{ChunkTaken}
 
 -- the header of kinds 4 to 6: after the tag and 81, 82, or 82 and the low byte of the number (rule 18.10)
@@ -22,7 +23,7 @@ header_by_numbers k t n =
 unfoldable pub walk_by_numbers : ℕ → ℕ → ℕ → ChunkWalk
 walk_by_numbers k t n =
     cond (eqb k 0) Boundary
-    (cond (leb k 6) (Header (header_by_numbers k t n)) (cond (eqb k 7) (Value n) (cond (eqb k 8) End Unreadable)))
+    (cond (leb k 6) (Header (header_by_numbers k t n)) (cond (eqb k 7) (Value n) (Stopped (cond (eqb k 8) stop.End stop.Unreadable))))
 
 -- the numbers of a header: kind, tag, number; 0 for what it has not (rule 18.10)
 abbrev pub header_numbers : Part → List ℕ
@@ -38,8 +39,8 @@ abbrev pub walk_numbers : ChunkWalk → List ℕ
 walk_numbers Boundary = 0 ∷ 0 ∷ 0 ∷ []
 walk_numbers (Header h) = header_numbers h
 walk_numbers (Value n) = 7 ∷ 0 ∷ n ∷ []
-walk_numbers End = 8 ∷ 0 ∷ 0 ∷ []
-walk_numbers Unreadable = 9 ∷ 0 ∷ 0 ∷ []
+walk_numbers (Stopped stop.End) = 8 ∷ 0 ∷ 0 ∷ []
+walk_numbers (Stopped stop.Unreadable) = 9 ∷ 0 ∷ 0 ∷ []
 
 -- the state that the numbers of a row stand for, if a host hands them in again (rule 18.10)
 abbrev pub walk_of : List ℕ → ChunkWalk
@@ -79,8 +80,7 @@ abbrev pub HoldsBytes : ChunkWalk → Type 0
 HoldsBytes Boundary = Unit {0}
 HoldsBytes (Header h) = PartHoldsBytes h
 HoldsBytes (Value n) = Unit {0}
-HoldsBytes End = Unit {0}
-HoldsBytes Unreadable = Unit {0}
+HoldsBytes (Stopped e) = Unit {0}
 
 -- the promise of `tell_answer`: the row of the call that an answer says
 abbrev pub AnswerTold : ChunkTaken → List ℕ → ℕ → List ℕ → Type 0

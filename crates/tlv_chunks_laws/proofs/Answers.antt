@@ -6,10 +6,12 @@ use mathlib.Core.List.{List, [], ◌∷◌, append-nil, cons-ne-nil}
 use mathlib.Core.Option.{none}
 use native.Mathlib.Omega.{arith}
 use lib.ListN.{length, take}
+use Rattle.std.specs.Prelude.{Ok}
+use Rattle.tlv.specs.Stop.{stop_number}
 use Rattle.tlv_chunks.specs.Run.{Event, refusal, Step, following, step, run}
 use Rattle.tlv_chunks.specs.Call.{Call, after_byte, up_to_reply, repeated, take_of, events_of, call_of, TakeIs}
 use Rattle.tlv_chunks.specs.declared.walk.ChunkWalk.{ChunkWalk}
-use Rattle.tlv_chunks.specs.declared.walk.ChunkWalk.TheVariants.{Boundary, Header, Value, End, Unreadable}
+use Rattle.tlv_chunks.specs.declared.walk.ChunkWalk.TheVariants.{Boundary, Header, Value, Stopped}
 use Rattle.tlv_chunks.specs.declared.walk.TakeChunk.TheVariants as answer
 use Rattle.tlv_chunks.specs.declared.walk.ChunkTaken.{ChunkTaken}
 use Rattle.tlv_chunks.proofs.Calls.{call_said}
@@ -76,8 +78,7 @@ unfolding take_of
 take_fewest Boundary s = (up_to_reply_lem Boundary s).fewest
 take_fewest (Header h) s = (up_to_reply_lem (Header h) s).fewest
 take_fewest (Value n) s = (up_to_reply_lem (Value n) s).fewest
-take_fewest End s = none_taken End End s 11
-take_fewest Unreadable s = none_taken Unreadable Unreadable s 12
+take_fewest (Stopped r) s = none_taken (Stopped r) (Stopped r) s (stop_number r)
 
 take_runs : (w : ChunkWalk) (s : List ℕ) → stopped_by w ≡ none → let c = take_of w s in
     run w (take c.taken s) ≡ record { tells = c.tells; walk = c.walk }
@@ -85,8 +86,7 @@ unfolding take_of
 take_runs Boundary s e = (up_to_reply_lem Boundary s).run_of_taken
 take_runs (Header h) s e = (up_to_reply_lem (Header h) s).run_of_taken
 take_runs (Value n) s e = (up_to_reply_lem (Value n) s).run_of_taken
-take_runs End s e = none_some 11 (sym e)
-take_runs Unreadable s e = none_some 12 (sym e)
+take_runs (Stopped r) s e = none_some (stop_number r) (sym e)
 
 -- every answer
 module _ (w : ChunkWalk) (s : List ℕ) (x : ChunkTaken) (p : TakeIs w s x) where
@@ -98,7 +98,7 @@ module _ (w : ChunkWalk) (s : List ℕ) (x : ChunkTaken) (p : TakeIs w s x) wher
   fewer_tell_nothing = answer_fewest.not_before
 
   -- if more bytes are needed all were taken
-  pub need_more_all_taken : x.answer ≡ answer.NeedMore → x.taken ≡ length s
+  pub need_more_all_taken : x.answer ≡ Ok answer.NeedMore → x.taken ≡ length s
   need_more_all_taken e = answer_fewest.all (ap events_of e)
 
   pub taken_within : x.taken ≤ length s

@@ -5,6 +5,10 @@ use mathlib.Core.List.{List, [], ◌∷◌, ◌++◌, cons-ne-nil}
 use mathlib.Core.Option.{some}
 use native.Mathlib.Omega.{arith}
 use lib.ListN.{drop}
+use Rattle.std.specs.Prelude.{Result, Ok, Err}
+use Rattle.tlv.specs.Stop.{stop_number}
+use Rattle.tlv.specs.declared.stop.Stop.{Stop}
+use Rattle.tlv.specs.declared.stop.Stop.TheVariants as stop
 use Rattle.tlv_chunks.specs.Header.{byte_of}
 use Rattle.tlv_chunks.specs.Run.{Event, refusal, Step, header_byte, step, following, run}
 use Rattle.tlv_chunks.specs.Call.{Call, after_byte, up_to_reply, repeated, take_of, call_of, TakeIs}
@@ -12,7 +16,7 @@ use Rattle.tlv_chunks.specs.declared.header.Header.{Header as Part}
 use Rattle.tlv_chunks.specs.declared.header.HeaderByte.{HeaderByte}
 use Rattle.tlv_chunks.specs.declared.header.HeaderByte.TheVariants as byte
 use Rattle.tlv_chunks.specs.declared.walk.ChunkWalk.{ChunkWalk}
-use Rattle.tlv_chunks.specs.declared.walk.ChunkWalk.TheVariants.{Boundary, Header, Value, End, Unreadable}
+use Rattle.tlv_chunks.specs.declared.walk.ChunkWalk.TheVariants.{Boundary, Header, Value, Stopped}
 use Rattle.tlv_chunks.specs.declared.walk.ChunkTaken.{ChunkTaken}
 use Rattle.tlv_chunks.proofs.Calls.{call_said}
 use Rattle.tlv_chunks_laws.specs.Session.{stopped_by, once_after}
@@ -27,12 +31,12 @@ abbrev pub Stops : List Event → ChunkWalk → Type 0
 Stops ts v = (k : ℕ) → ts ≡ refusal k ∷ [] → stopped_by v ≡ some k
 
 -- one byte
-header_once : (h : Part) (x : HeaderByte) → Once (Header h) (header_byte x).tells (header_byte x).tells (header_byte x).walk
+header_once : (h : Part) (x : Result HeaderByte Stop) → Once (Header h) (header_byte x).tells (header_byte x).tells (header_byte x).walk
 unfolding once_after
-header_once h (byte.More g) es = refl
-header_once h (byte.Complete t zero) es = refl
-header_once h (byte.Complete t (suc n)) es = refl
-header_once h byte.Unreadable es = refl
+header_once h (Ok (byte.More g)) es = refl
+header_once h (Ok (byte.Complete t zero)) es = refl
+header_once h (Ok (byte.Complete t (suc n))) es = refl
+header_once h (Err r) es = refl
 
 step_once : (w : ChunkWalk) (b : ℕ) → Once w (step w b).tells (step w b).tells (step w b).walk
 unfolding step once_after
@@ -40,17 +44,16 @@ step_once Boundary b es = refl
 step_once (Header h) b es = header_once h (byte_of h b) es
 step_once (Value zero) b es = refl
 step_once (Value (suc n)) b es = refl
-step_once End b es = refl
-step_once Unreadable b es = refl
+step_once (Stopped r) b es = refl
 
 not_told : {P : Type 0} (k : ℕ) → ◌≡◌ {A = List Event} [] (refusal k ∷ []) → P
 not_told k e = absurd (cons-ne-nil (refusal k) [] (sym e))
 
-header_stops : (x : HeaderByte) → Stops (header_byte x).tells (header_byte x).walk
-header_stops (byte.More g) k e = not_told k e
-header_stops (byte.Complete t zero) k e = absurd (let z : ◌≡◌ {A = ℕ} 0 1 = cc in omega arith)
-header_stops (byte.Complete t (suc n)) k e = absurd (let z : ◌≡◌ {A = ℕ} 0 1 = cc in omega arith)
-header_stops byte.Unreadable k e = let f : ◌≡◌ {A = ℕ} 12 k = cc in ap some f
+header_stops : (x : Result HeaderByte Stop) → Stops (header_byte x).tells (header_byte x).walk
+header_stops (Ok (byte.More g)) k e = not_told k e
+header_stops (Ok (byte.Complete t zero)) k e = absurd (let z : ◌≡◌ {A = ℕ} 0 1 = cc in omega arith)
+header_stops (Ok (byte.Complete t (suc n))) k e = absurd (let z : ◌≡◌ {A = ℕ} 0 1 = cc in omega arith)
+header_stops (Err r) k e = let f : ◌≡◌ {A = ℕ} (stop_number r) k = cc in ap some f
 
 step_stops : (w : ChunkWalk) (b : ℕ) → Stops (step w b).tells (step w b).walk
 unfolding step
@@ -58,8 +61,7 @@ step_stops Boundary b k e = not_told k e
 step_stops (Header h) b k e = header_stops (byte_of h b) k e
 step_stops (Value zero) b k e = absurd (let z : ◌≡◌ {A = ℕ} 0 1 = cc in omega arith)
 step_stops (Value (suc n)) b k e = not_told k e
-step_stops End b k e = not_told k e
-step_stops Unreadable b k e = not_told k e
+step_stops (Stopped r) b k e = not_told k e
 
 -- a call on the chunk s in the state w, whose run over s is r: r tells what is new of the call, and goes on from its
 -- state over the bytes that it did not take. A call that tells nothing takes all bytes, a refusal stops the walk
@@ -102,8 +104,8 @@ unfolding take_of once_after
 take_goes Boundary s = up_to_reply_lem Boundary s
 take_goes (Header h) s = up_to_reply_lem (Header h) s
 take_goes (Value n) s = up_to_reply_lem (Value n) s
-take_goes End s = again End 11 refl s (λ es. refl)
-take_goes Unreadable s = again Unreadable 12 refl s (λ es. refl)
+take_goes (Stopped stop.End) s = again (Stopped stop.End) 11 refl s (λ es. refl)
+take_goes (Stopped stop.Unreadable) s = again (Stopped stop.Unreadable) 12 refl s (λ es. refl)
 
 -- the same of an answer that `take` promises
 pub answer_goes : (w : ChunkWalk) (s : List ℕ) (x : ChunkTaken) → TakeIs w s x → Goes w (run w s) s (call_of x)

@@ -10,11 +10,12 @@ use Rattle.tlv.specs.Len.{Len, len_of}
 use Rattle.tlv.specs.Object.{Item}
 use Rattle.tlv.specs.Walk.{walk}
 use Rattle.tlv.specs.declared.Reading.TheVariants.{Crate}
+use Rattle.std.specs.Prelude.{Err}
+use Rattle.tlv.specs.declared.stop.Stop.TheVariants as stop
 use Rattle.tlv_chunks.specs.Run.{Event, head, end, refusal, run, closing}
 use Rattle.tlv_chunks.specs.Call.{events_of, NewIs, CloseIs}
 use Rattle.tlv_chunks.specs.declared.walk.ChunkWalk.{ChunkWalk}
-use Rattle.tlv_chunks.specs.declared.walk.ChunkWalk.TheVariants.{Boundary, Header, Value, End, Unreadable}
-use Rattle.tlv_chunks.specs.declared.walk.TakeChunk.TheVariants as answer
+use Rattle.tlv_chunks.specs.declared.walk.ChunkWalk.TheVariants.{Boundary, Header, Value, Stopped}
 use Rattle.tlv_chunks.specs.declared.walk.ChunkTaken.{ChunkTaken}
 use Rattle.tlv_chunks.proofs.OneReply.{close}
 use Rattle.tlv_chunks_laws.specs.Session.{stopped_by, state_after, Session, told, once_after, once}
@@ -84,8 +85,8 @@ unfolding once_after
 finished_then_closed es Boundary = finished_then_refused es 11
 finished_then_closed es (Header h) = finished_then_refused es 12
 finished_then_closed es (Value n) = finished_then_refused es 12
-finished_then_closed es End = ap finished (append-nil es)
-finished_then_closed es Unreadable = ap finished (append-nil es)
+finished_then_closed es (Stopped stop.End) = ap finished (append-nil es)
+finished_then_closed es (Stopped stop.Unreadable) = ap finished (append-nil es)
 
 -- chunks, from a walk that `new` gives
 module _ (w : ChunkWalk) (start : NewIs w) (ss : List (List ℕ)) (xss : List (List ChunkTaken)) (h : Session w ss xss) where
@@ -125,8 +126,8 @@ module _ (w : ChunkWalk) (start : NewIs w) (ss : List (List ℕ)) (xss : List (L
     closed_refusal = ap refusals closed_tells ∙ whole_refusals (flatten ss)
 
     -- the answer to the closing call is that number, and the walk has stopped with it
-    pub closed_11 : (walk Crate 0 (flatten ss)).stop.number ≡ 11 → y ≡ record { answer = answer.End; taken = 0; walk = End }
+    pub closed_11 : (walk Crate 0 (flatten ss)).stop.number ≡ 11 → y ≡ record { answer = Err stop.End; taken = 0; walk = Stopped stop.End }
     closed_11 e = let k = number_is ∙ e in close (state_after w (flatten xss)) y _ p (record { tells = rw k; taken = refl; walk = rw k })
 
-    pub closed_12 : (walk Crate 0 (flatten ss)).stop.number ≡ 12 → y ≡ record { answer = answer.Unreadable; taken = 0; walk = Unreadable }
+    pub closed_12 : (walk Crate 0 (flatten ss)).stop.number ≡ 12 → y ≡ record { answer = Err stop.Unreadable; taken = 0; walk = Stopped stop.Unreadable }
     closed_12 e = let k = number_is ∙ e in close (state_after w (flatten xss)) y _ p (record { tells = rw k; taken = refl; walk = rw k })

@@ -5,6 +5,9 @@ use mathlib.Core.Path.{◌≡◌, refl, sym, ap, subst, ◌∙◌, ◌∙⁻¹�
 use mathlib.Core.List.{List, [], ◌∷◌, ◌++◌, append_assoc, append-nil, flatten}
 use borrow.Author.Tests.{eq-eqb, ne_eqb}
 use lib.ListN.{drop}
+use Rattle.std.specs.Prelude.{Result, Ok, Err}
+use Rattle.tlv.specs.Stop.{stop_number}
+use Rattle.tlv.specs.declared.stop.Stop.{Stop}
 use Rattle.tlv_chunks.specs.Run.{Event, head, end, refusal, Step, nothing, following, run}
 use Rattle.tlv_chunks.specs.Call.{events_of, NewIs}
 use Rattle.tlv_chunks.specs.declared.walk.ChunkWalk.{ChunkWalk}
@@ -17,13 +20,12 @@ use Rattle.tlv_chunks_laws.proofs.Runs.{run_append, run_nothing, run_stopped}
 use Rattle.tlv_chunks_laws.proofs.Calls.{Stops, answer_goes}
 
 -- the last answer to a chunk: what is left of it changes nothing
-rest_nothing : (a : TakeChunk) (v : ChunkWalk) (s : List ℕ) → LastAnswer a → (events_of a ≡ [] → s ≡ []) → Stops (events_of a) v → run v s ≡ nothing v
-rest_nothing answer.NeedMore v s u f g = ap (run v) (f refl) ∙ run_nothing v
-rest_nothing (answer.Head t n) v s u f g = absurd u
-rest_nothing (answer.Empty t) v s u f g = absurd u
-rest_nothing answer.ValueEnd v s u f g = absurd u
-rest_nothing answer.End v s u f g = run_stopped v 11 (g 11 refl) s
-rest_nothing answer.Unreadable v s u f g = run_stopped v 12 (g 12 refl) s
+rest_nothing : (a : Result TakeChunk Stop) (v : ChunkWalk) (s : List ℕ) → LastAnswer a → (events_of a ≡ [] → s ≡ []) → Stops (events_of a) v → run v s ≡ nothing v
+rest_nothing (Ok answer.NeedMore) v s u f g = ap (run v) (f refl) ∙ run_nothing v
+rest_nothing (Ok (answer.Head t n)) v s u f g = absurd u
+rest_nothing (Ok (answer.Empty t)) v s u f g = absurd u
+rest_nothing (Ok answer.ValueEnd) v s u f g = absurd u
+rest_nothing (Err r) v s u f g = run_stopped v (stop_number r) (g (stop_number r) refl) s
 
 -- answers in the state w, where the run is r: what they say, once, is what r tells, and their last state is that of r
 pub record Ran (w : ChunkWalk) (r : Step) (xs : List ChunkTaken) : Type 0 where

@@ -8,13 +8,16 @@ use native.Mathlib.Decide.{dec_le}
 use native.Mathlib.Omega.{arith}
 use lib.ListN.{length, drop, length-drop}
 use lib.ListN.{take as bytes_taken}
+use Rattle.std.specs.Prelude.{Result, Ok, Err}
+use Rattle.tlv.specs.declared.stop.Stop.{Stop}
+use Rattle.tlv.specs.declared.stop.Stop.TheVariants as stop
 use Rattle.tlv_chunks.specs.Header.{byte_of}
 use Rattle.tlv_chunks.specs.Run.{Event, head, end, Step, header_byte, step, run}
 use Rattle.tlv_chunks.specs.Call.{Call, after_byte, up_to_reply, take_of, events_of, NewIs, TakeIs, CloseIs}
 use Rattle.tlv_chunks.specs.declared.header.HeaderByte.{HeaderByte}
 use Rattle.tlv_chunks.specs.declared.header.HeaderByte.TheVariants as byte
 use Rattle.tlv_chunks.specs.declared.walk.ChunkWalk.{ChunkWalk}
-use Rattle.tlv_chunks.specs.declared.walk.ChunkWalk.TheVariants.{Boundary, Header, Value, End, Unreadable}
+use Rattle.tlv_chunks.specs.declared.walk.ChunkWalk.TheVariants.{Boundary, Header, Value, Stopped}
 use Rattle.tlv_chunks.specs.declared.walk.TakeChunk.{TakeChunk}
 use Rattle.tlv_chunks.specs.declared.walk.TakeChunk.TheVariants as answer
 use Rattle.tlv_chunks.specs.declared.walk.ChunkTaken.{ChunkTaken}
@@ -25,22 +28,21 @@ use Rattle.tlv_chunks_laws.proofs.Stopped.{repeats_11, repeats_12, take_after_11
 
 -- an answer that says this
 abbrev Said : List Event → Type 0
-Said ts = (a : TakeChunk) × (events_of a ≡ ts)
+Said ts = (a : Result TakeChunk Stop) × (events_of a ≡ ts)
 
-header_said : (x : HeaderByte) → Said (header_byte x).tells
-header_said (byte.More g) = (answer.NeedMore, refl)
-header_said (byte.Complete t zero) = (answer.Empty t, refl)
-header_said (byte.Complete t (suc n)) = (answer.Head t (suc n), refl)
-header_said byte.Unreadable = (answer.Unreadable, refl)
+header_said : (x : Result HeaderByte Stop) → Said (header_byte x).tells
+header_said (Ok (byte.More g)) = (Ok answer.NeedMore, refl)
+header_said (Ok (byte.Complete t zero)) = (Ok (answer.Empty t), refl)
+header_said (Ok (byte.Complete t (suc n))) = (Ok (answer.Head t (suc n)), refl)
+header_said (Err e) = (Err e, refl)
 
 step_said : (w : ChunkWalk) (b : ℕ) → Said (step w b).tells
 unfolding step
-step_said Boundary b = (answer.NeedMore, refl)
+step_said Boundary b = (Ok answer.NeedMore, refl)
 step_said (Header h) b = header_said (byte_of h b)
-step_said (Value zero) b = (answer.ValueEnd, refl)
-step_said (Value (suc n)) b = (answer.NeedMore, refl)
-step_said End b = (answer.NeedMore, refl)
-step_said Unreadable b = (answer.NeedMore, refl)
+step_said (Value zero) b = (Ok answer.ValueEnd, refl)
+step_said (Value (suc n)) b = (Ok answer.NeedMore, refl)
+step_said (Stopped e) b = (Ok answer.NeedMore, refl)
 
 after_said : (ts : List Event) (v : ChunkWalk) (c : Call) → Said ts → Said c.tells → Said (after_byte ts v c).tells
 after_said [] v c a d = d
@@ -48,7 +50,7 @@ after_said (e ∷ ts) v c a d = a
 
 up_said : (w : ChunkWalk) (s : List ℕ) → Said (up_to_reply w s).tells
 unfolding up_to_reply
-up_said w [] = (answer.NeedMore, refl)
+up_said w [] = (Ok answer.NeedMore, refl)
 up_said w (b ∷ s) = let x = step w b in after_said x.tells x.walk (up_to_reply x.walk s) (step_said w b) (up_said x.walk s)
 
 take_said : (w : ChunkWalk) (s : List ℕ) → Said (take_of w s).tells
@@ -56,8 +58,7 @@ unfolding take_of
 take_said Boundary s = up_said Boundary s
 take_said (Header h) s = up_said (Header h) s
 take_said (Value n) s = up_said (Value n) s
-take_said End s = (answer.End, refl)
-take_said Unreadable s = (answer.Unreadable, refl)
+take_said (Stopped e) s = (Err e, refl)
 
 pub answer_there : (w : ChunkWalk) (s : List ℕ) → (x : ChunkTaken) × TakeIs w s x
 answer_there w s =
@@ -68,13 +69,12 @@ answer_there w s =
 
 -- an answer that leaves something of the chunk to be handed in has taken some of it
 module _ (s : List ℕ) (x : ChunkTaken) (left : LastAnswer x.answer → ⊥) where
-  tells_something : (a : TakeChunk) → (LastAnswer a → ⊥) → events_of a ≡ [] → ⊥
-  tells_something answer.NeedMore n e = n tt
-  tells_something (answer.Head t m) n e = cons-ne-nil (head t m) [] e
-  tells_something (answer.Empty t) n e = cons-ne-nil (head t 0) (end ∷ []) e
-  tells_something answer.ValueEnd n e = cons-ne-nil end [] e
-  tells_something answer.End n e = n tt
-  tells_something answer.Unreadable n e = n tt
+  tells_something : (a : Result TakeChunk Stop) → (LastAnswer a → ⊥) → events_of a ≡ [] → ⊥
+  tells_something (Ok answer.NeedMore) n e = n tt
+  tells_something (Ok (answer.Head t m)) n e = cons-ne-nil (head t m) [] e
+  tells_something (Ok (answer.Empty t)) n e = cons-ne-nil (head t 0) (end ∷ []) e
+  tells_something (Ok answer.ValueEnd) n e = cons-ne-nil end [] e
+  tells_something (Err r) n e = n tt
 
   goes_on : (w : ChunkWalk) → stopped_by w ≡ none → TakeIs w s x → (1 ≤ x.taken) × (x.taken ≤ length s)
   goes_on w goes p =
@@ -91,8 +91,8 @@ module _ (s : List ℕ) (x : ChunkTaken) (left : LastAnswer x.answer → ⊥) wh
   some_taken Boundary p = goes_on Boundary refl p
   some_taken (Header h) p = goes_on (Header h) refl p
   some_taken (Value n) p = goes_on (Value n) refl p
-  some_taken End p = absurd (left (subst (λ (y : ChunkTaken). LastAnswer y.answer) (sym (take_after_11 x s p)) tt))
-  some_taken Unreadable p = absurd (left (subst (λ (y : ChunkTaken). LastAnswer y.answer) (sym (take_after_12 x s p)) tt))
+  some_taken (Stopped stop.End) p = absurd (left (subst (λ (y : ChunkTaken). LastAnswer y.answer) (sym (take_after_11 x s p)) tt))
+  some_taken (Stopped stop.Unreadable) p = absurd (left (subst (λ (y : ChunkTaken). LastAnswer y.answer) (sym (take_after_12 x s p)) tt))
 
 -- the answers to one chunk
 abbrev Answers : ChunkWalk → List ℕ → Type 0
@@ -103,13 +103,12 @@ one_more : (w : ChunkWalk) (s : List ℕ) (x : ChunkTaken) → TakeIs w s x → 
 one_more w s x p [] h = absurd h
 one_more w s x p (y ∷ ys) h = (x ∷ y ∷ ys, (p, h))
 
-by_last : (a : TakeChunk) → {P : Type 0} → (LastAnswer a → P) → ((LastAnswer a → ⊥) → P) → P
-by_last answer.NeedMore h g = h tt
-by_last (answer.Head t n) h g = g (λ u. u)
-by_last (answer.Empty t) h g = g (λ u. u)
-by_last answer.ValueEnd h g = g (λ u. u)
-by_last answer.End h g = h tt
-by_last answer.Unreadable h g = h tt
+by_last : (a : Result TakeChunk Stop) → {P : Type 0} → (LastAnswer a → P) → ((LastAnswer a → ⊥) → P) → P
+by_last (Ok answer.NeedMore) h g = h tt
+by_last (Ok (answer.Head t n)) h g = g (λ u. u)
+by_last (Ok (answer.Empty t)) h g = g (λ u. u)
+by_last (Ok answer.ValueEnd) h g = g (λ u. u)
+by_last (Err e) h g = h tt
 
 answers_in : (n : ℕ) (w : ChunkWalk) (s : List ℕ) → length s ≤ n → Answers w s
 answers_in zero w s few =
@@ -141,5 +140,5 @@ pub close_there : (w : ChunkWalk) → (y : ChunkTaken) × CloseIs w y
 close_there Boundary = (repeats_11, record { tells = refl; taken = refl; walk = refl })
 close_there (Header h) = (repeats_12, record { tells = refl; taken = refl; walk = refl })
 close_there (Value n) = (repeats_12, record { tells = refl; taken = refl; walk = refl })
-close_there End = (repeats_11, record { tells = refl; taken = refl; walk = refl })
-close_there Unreadable = (repeats_12, record { tells = refl; taken = refl; walk = refl })
+close_there (Stopped stop.End) = (repeats_11, record { tells = refl; taken = refl; walk = refl })
+close_there (Stopped stop.Unreadable) = (repeats_12, record { tells = refl; taken = refl; walk = refl })

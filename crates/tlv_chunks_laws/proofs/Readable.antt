@@ -12,25 +12,28 @@ use Rattle.tlv.specs.declared.Reading.TheVariants.{Crate}
 use Rattle.tlv.proofs.Tags.{crate_second_last, crate_third_low}
 use Rattle.tlv_laws.specs.Padding.{zero_bytes}
 use Rattle.tlv_laws.proofs.ZeroBytes.{zero_bytes_lem}
+use Rattle.std.specs.Prelude.{Ok}
+use Rattle.tlv.specs.Stop.{stop_number}
+use Rattle.tlv.specs.declared.stop.Stop.TheVariants as stop
 use Rattle.tlv_chunks.specs.Header.{byte_of}
 use Rattle.tlv_chunks.specs.Run.{Step, nothing, headed, following, run, closing}
 use Rattle.tlv_chunks.specs.declared.header.Header.{Header as Part}
 use Rattle.tlv_chunks.specs.declared.header.Header.TheVariants as part
 use Rattle.tlv_chunks.specs.declared.header.HeaderByte.TheVariants as byte
 use Rattle.tlv_chunks.specs.declared.walk.ChunkWalk.{ChunkWalk}
-use Rattle.tlv_chunks.specs.declared.walk.ChunkWalk.TheVariants.{Boundary, Header, Value, End, Unreadable}
+use Rattle.tlv_chunks.specs.declared.walk.ChunkWalk.TheVariants.{Boundary, Header, Value, Stopped}
 use Rattle.tlv_chunks.proofs.Headers as header
 use Rattle.tlv_chunks_laws.specs.Session.{stopped_by}
 use Rattle.tlv_chunks_laws.specs.Whole.{whole_tells}
-use Rattle.tlv_chunks_laws.proofs.Runs.{none_some, run_append, run_nothing, run_unreadable, run_byte, value_whole}
+use Rattle.tlv_chunks_laws.proofs.Runs.{none_some, run_append, run_nothing, run_after_stop, run_byte, value_whole}
 use Rattle.tlv_chunks_laws.proofs.Whole.{ended, ended_whole, closing_number}
 
 -- after 12 the record tells the same whatever comes, and its walk stops with 12
-module _ (s : List ℕ) (e : (run Boundary s).walk ≡ Unreadable) (more : List ℕ) where
+module _ (s : List ℕ) (e : (run Boundary s).walk ≡ Stopped stop.Unreadable) (more : List ℕ) where
   same_run : run Boundary (s ++ more) ≡ run Boundary s
   same_run =
       let r = run Boundary s in
-      let stays : run r.walk more ≡ nothing r.walk = rw e (run_unreadable more) in
+      let stays : run r.walk more ≡ nothing r.walk = rw e (run_after_stop stop.Unreadable more) in
       run_append Boundary s more ∙ ap (following r.tells) stays ∙ (λ i. record { tells = append-nil r.tells i; walk = r.walk })
 
   pub refused_for_good : (walk Crate 0 (s ++ more)).stop.number ≡ 12
@@ -49,8 +52,7 @@ to_boundary (Header (part.Length81 t)) = 0x00 ∷ []
 to_boundary (Header (part.Length82 t)) = 0x00 ∷ 0x00 ∷ []
 to_boundary (Header (part.Length82High t a)) = 0x00 ∷ zero_bytes (a * 256 + 0)
 to_boundary (Value n) = zero_bytes (suc n)
-to_boundary End = []
-to_boundary Unreadable = []
+to_boundary (Stopped r) = []
 
 value_filled : (n : ℕ) → (run (Value n) (zero_bytes (suc n))).walk ≡ Boundary
 value_filled n =
@@ -66,13 +68,13 @@ object_filled t zero = ap (λ (r : Step). r.walk) (run_nothing Boundary)
 object_filled t (suc n) = value_filled n
 
 -- a byte of a header, and the state after further bytes
-state_more : (h g : Part) (b : ℕ) (s : List ℕ) → byte_of h b ≡ byte.More g → (run (Header h) (b ∷ s)).walk ≡ (run (Header g) s).walk
-state_more h g b s e = ap (λ (r : Step). r.walk) (run_byte h b s (byte.More g) e)
+state_more : (h g : Part) (b : ℕ) (s : List ℕ) → byte_of h b ≡ Ok (byte.More g) → (run (Header h) (b ∷ s)).walk ≡ (run (Header g) s).walk
+state_more h g b s e = ap (λ (r : Step). r.walk) (run_byte h b s (Ok (byte.More g)) e)
 
-state_complete : (h : Part) (t n b : ℕ) (s : List ℕ) → byte_of h b ≡ byte.Complete t n → (run (Header h) (b ∷ s)).walk ≡ (run (headed t n).walk s).walk
-state_complete h t n b s e = ap (λ (r : Step). r.walk) (run_byte h b s (byte.Complete t n) e)
+state_complete : (h : Part) (t n b : ℕ) (s : List ℕ) → byte_of h b ≡ Ok (byte.Complete t n) → (run (Header h) (b ∷ s)).walk ≡ (run (headed t n).walk s).walk
+state_complete h t n b s e = ap (λ (r : Step). r.walk) (run_byte h b s (Ok (byte.Complete t n)) e)
 
-boundary_there : (h : Part) (t b : ℕ) → byte_of h b ≡ byte.Complete t 0 → (run (Header h) (b ∷ [])).walk ≡ Boundary
+boundary_there : (h : Part) (t b : ℕ) → byte_of h b ≡ Ok (byte.Complete t 0) → (run (Header h) (b ∷ [])).walk ≡ Boundary
 boundary_there h t b e = state_complete h t 0 b [] e ∙ ap (λ (r : Step). r.walk) (run_nothing Boundary)
 
 length_00 : (t : ℕ) → (run (Header (part.Tag t)) (0x00 ∷ [])).walk ≡ Boundary
@@ -95,8 +97,7 @@ to_boundary_lem (Header (part.Length82High t a)) e =
     state_complete (part.Length82High t a) t (a * 256 + 0) 0x00 (zero_bytes (a * 256 + 0)) (header.low_after_82 t a 0x00)
     ∙ object_filled t (a * 256 + 0)
 to_boundary_lem (Value n) e = value_filled n
-to_boundary_lem End e = none_some 11 (sym e)
-to_boundary_lem Unreadable e = none_some 12 (sym e)
+to_boundary_lem (Stopped r) e = none_some (stop_number r) (sym e)
 
 -- they are bytes
 zeros_are_bytes : (n : ℕ) → Bytes (zero_bytes n)
@@ -119,8 +120,7 @@ to_boundary_bytes (Header (part.Length81 t)) = one_zero
 to_boundary_bytes (Header (part.Length82 t)) = two_zeros
 to_boundary_bytes (Header (part.Length82High t a)) = bytes_more 0 (zero_bytes (a * 256 + 0)) (omega arith) (zeros_are_bytes (a * 256 + 0))
 to_boundary_bytes (Value n) = zeros_are_bytes (suc n)
-to_boundary_bytes End = bytes_none
-to_boundary_bytes Unreadable = bytes_none
+to_boundary_bytes (Stopped r) = bytes_none
 
 -- as long as nothing was refused there are more bytes with which all of the record is read, to its end
 pub readable_yet : (s : List ℕ) → stopped_by (run Boundary s).walk ≡ none

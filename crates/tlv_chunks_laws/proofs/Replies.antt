@@ -13,6 +13,7 @@ use Rattle.tlv.specs.Len.{Len, len_of}
 use Rattle.tlv.specs.declared.Reading.TheVariants.{Crate}
 use Rattle.tlv.proofs.Tags.{by_tag}
 use Rattle.tlv.proofs.Lengths.{by_length}
+use Rattle.std.specs.Prelude.{Ok}
 use Rattle.tlv_chunks.specs.Header.{byte_of}
 use Rattle.tlv_chunks.specs.Run.{head, end}
 use Rattle.tlv_chunks.specs.Call.{Call, take_of, events_of, Says, TakeIs, head_call, rest_call}
@@ -88,11 +89,11 @@ module _ (s : List ℕ) (t : Tag) (l : Len) (x : ChunkTaken) (e : tag_of Crate s
   header_taken : take_of Boundary s ≡ head_call t.number l.number (t.size + l.size)
   header_taken = subst (TagTaken s) e (tag_taken s) ∙ subst (LenTaken t.number s t.size) f (len_taken t.number s t.size)
 
-  pub empty_answered : l.number ≡ 0 → x ≡ record { answer = answer.Empty t.number; taken = t.size + l.size; walk = Boundary }
+  pub empty_answered : l.number ≡ 0 → x ≡ record { answer = Ok (answer.Empty t.number); taken = t.size + l.size; walk = Boundary }
   empty_answered z = answered_so Boundary s x _ _ p (header_taken ∙ head_empty _ _ _ z) (record { tells = refl; taken = refl; walk = refl })
 
   pub head_answered : (l.number ≡ 0 → ⊥)
-      → x ≡ record { answer = answer.Head t.number l.number; taken = t.size + l.size; walk = Value (l.number - 1) }
+      → x ≡ record { answer = Ok (answer.Head t.number l.number); taken = t.size + l.size; walk = Value (l.number - 1) }
   head_answered z = answered_so Boundary s x _ _ p (header_taken ∙ head_some _ _ _ z) (record { tells = refl; taken = refl; walk = refl })
 
   -- and what that tells
@@ -104,12 +105,12 @@ module _ (s : List ℕ) (t : Tag) (l : Len) (x : ChunkTaken) (e : tag_of Crate s
 
 -- in a value, of which n + 1 bytes are missing
 module _ (n : ℕ) (s : List ℕ) (x : ChunkTaken) (p : TakeIs (Value n) s x) where
-  pub value_part_answered : length s ≤ n → x ≡ record { answer = answer.NeedMore; taken = length s; walk = Value (n - length s) }
+  pub value_part_answered : length s ≤ n → x ≡ record { answer = Ok answer.NeedMore; taken = length s; walk = Value (n - length s) }
   value_part_answered h =
       answered_so (Value n) s x _ _ p (sym (value_in_one_step n s) ∙ value_needs_more n (length s) n refl h)
       (record { tells = refl; taken = refl; walk = refl })
 
-  pub value_end_answered : n < length s → x ≡ record { answer = answer.ValueEnd; taken = n + 1; walk = Boundary }
+  pub value_end_answered : n < length s → x ≡ record { answer = Ok answer.ValueEnd; taken = n + 1; walk = Boundary }
   value_end_answered h =
       answered_so (Value n) s x _ _ p (sym (value_in_one_step n s) ∙ value_ends n (length s) n refl h)
       (record { tells = refl; taken = refl; walk = refl })

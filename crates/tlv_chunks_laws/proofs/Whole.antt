@@ -26,26 +26,28 @@ use Rattle.tlv.proofs.Within.{Sized, len_within, tag_inside, crate_item, crate_s
 use Rattle.tlv.proofs.Walk.{walk_refused, walk_met, by_objects}
 use Rattle.tlv_write.specs.Written.{tag_bytes}
 use Rattle.tlv_laws.proofs.ReadBack.{tag_bytes_lem}
+use Rattle.std.specs.Prelude.{Ok, Err}
+use Rattle.tlv.specs.Stop.{stop_number}
+use Rattle.tlv.specs.declared.stop.Stop.TheVariants as stop
 use Rattle.tlv_chunks.specs.Header.{first_of, byte_of}
 use Rattle.tlv_chunks.specs.Run.{Event, head, end, refusal, Step, nothing, headed, step, following, run, closing}
 use Rattle.tlv_chunks.specs.declared.header.Header.{Header as Part}
 use Rattle.tlv_chunks.specs.declared.header.Header.TheVariants as part
 use Rattle.tlv_chunks.specs.declared.header.HeaderByte.TheVariants as byte
 use Rattle.tlv_chunks.specs.declared.walk.ChunkWalk.{ChunkWalk}
-use Rattle.tlv_chunks.specs.declared.walk.ChunkWalk.TheVariants.{Boundary, Header, Value, End, Unreadable}
+use Rattle.tlv_chunks.specs.declared.walk.ChunkWalk.TheVariants.{Boundary, Header, Value, Stopped}
 use Rattle.tlv_chunks.proofs.Headers as header
 use Rattle.tlv_chunks_laws.specs.Session.{stopped_by, once_after}
 use Rattle.tlv_chunks_laws.specs.Whole.{objects_tell, head_of_len, cut_head, whole_tells}
 use Rattle.tlv_chunks_laws.specs.Held.{own_bytes, header_bytes, Lacks, Means}
-use Rattle.tlv_chunks_laws.proofs.Runs.{run_nothing, run_byte, run_unreadable, value_whole, value_cut}
+use Rattle.tlv_chunks_laws.proofs.Runs.{run_nothing, run_byte, run_after_stop, value_whole, value_cut}
 
 -- what a state has refused; what is told at closing, unless the walk has stopped with it before
 abbrev refusal_of : ChunkWalk → List Event
 refusal_of Boundary = []
 refusal_of (Header h) = []
 refusal_of (Value n) = []
-refusal_of End = refusal 11 ∷ []
-refusal_of Unreadable = refusal 12 ∷ []
+refusal_of (Stopped r) = refusal (stop_number r) ∷ []
 
 abbrev pub closing_tells : ChunkWalk → List Event
 closing_tells w = once_after (stopped_by w) (refusal (closing w) ∷ [])
@@ -65,8 +67,8 @@ unfolding once_after
 refused_then_closed Boundary = refl
 refused_then_closed (Header h) = refl
 refused_then_closed (Value n) = refl
-refused_then_closed End = refl
-refused_then_closed Unreadable = refl
+refused_then_closed (Stopped stop.End) = refl
+refused_then_closed (Stopped stop.Unreadable) = refl
 
 left_ended : {B : Type 0} (s : List ℕ) (c : List Event) (k : ℕ) (x : Step) → Left B s c k x → ended x ≡ c ++ (refusal k ∷ [])
 left_ended s c k x h =
@@ -79,15 +81,15 @@ module _ {B : Type 0} (s : List ℕ) (x : Step) where
   in_header : (h : Part) → x ≡ nothing (Header h) → s ≡ header_bytes h → Left B s [] 12 x
   in_header h e f = subst (Left B s [] 12) (sym e) (record { tells = refl; number = refl; means = λ _. (f, refl) })
 
-  unreadable : x ≡ record { tells = refusal 12 ∷ []; walk = Unreadable } → Left B s [] 12 x
+  unreadable : x ≡ record { tells = refusal 12 ∷ []; walk = Stopped stop.Unreadable } → Left B s [] 12 x
   unreadable e = subst (Left B s [] 12) (sym e) (record { tells = refl; number = refl; means = λ _. refl })
 
-run_refused : (h : Part) (b : ℕ) (s : List ℕ) → byte_of h b ≡ byte.Unreadable
-    → run (Header h) (b ∷ s) ≡ record { tells = refusal 12 ∷ []; walk = Unreadable }
-run_refused h b s e = run_byte h b s byte.Unreadable e ∙ ap (following (refusal 12 ∷ [])) (run_unreadable s)
+run_refused : (h : Part) (b : ℕ) (s : List ℕ) → byte_of h b ≡ Err stop.Unreadable
+    → run (Header h) (b ∷ s) ≡ record { tells = refusal 12 ∷ []; walk = Stopped stop.Unreadable }
+run_refused h b s e = run_byte h b s (Err stop.Unreadable) e ∙ ap (following (refusal 12 ∷ [])) (run_after_stop stop.Unreadable s)
 
-run_more : (h g : Part) (b : ℕ) (s : List ℕ) → byte_of h b ≡ byte.More g → run (Header h) (b ∷ s) ≡ run (Header g) s
-run_more h g b s e = run_byte h b s (byte.More g) e
+run_more : (h g : Part) (b : ℕ) (s : List ℕ) → byte_of h b ≡ Ok (byte.More g) → run (Header h) (b ∷ s) ≡ run (Header g) s
+run_more h g b s e = run_byte h b s (Ok (byte.More g)) e
 
 -- a length after the tag t, as `len_of` reads it
 abbrev LenRun : ℕ → List ℕ → Reply Len → Type 0
@@ -105,7 +107,7 @@ module _ (t : ℕ) where
   len_81 a (b ∷ s) e =
       subst (LenRun t (a ∷ b ∷ s)) (sym (after_81 (a ∷ b ∷ s) (omega arith) e (omega arith)))
       (run_more (part.Tag t) (part.Length81 t) a (b ∷ s) (header.length_81 t a e)
-      ∙ run_byte (part.Length81 t) b s (byte.Complete t b) (header.after_81 t b))
+      ∙ run_byte (part.Length81 t) b s (Ok (byte.Complete t b)) (header.after_81 t b))
 
   len_82 : (a : ℕ) (s : List ℕ) → a ≡ 0x82 → LenRun t (a ∷ s) (len_to82 (a ∷ s))
   unfolding header_bytes
@@ -123,7 +125,7 @@ module _ (t : ℕ) where
       subst (LenRun t (a ∷ b ∷ c ∷ s)) (sym (after_82 (a ∷ b ∷ c ∷ s) (omega arith) e (omega arith)))
       (run_more (part.Tag t) (part.Length82 t) a (b ∷ c ∷ s) (header.length_82 t a e)
       ∙ run_more (part.Length82 t) (part.Length82High t b) b (c ∷ s) (header.high_after_82 t b)
-      ∙ run_byte (part.Length82High t b) c s (byte.Complete t (b * 256 + c)) (header.low_after_82 t b c))
+      ∙ run_byte (part.Length82High t b) c s (Ok (byte.Complete t (b * 256 + c))) (header.low_after_82 t b c))
 
   len_above_7f : (a : ℕ) (s : List ℕ) → 0x7F < a → LenRun t (a ∷ s) (len_to82 (a ∷ s))
   len_above_7f a s h =
@@ -144,7 +146,7 @@ module _ (t : ℕ) where
   len_run (a ∷ s) =
       elim (dec_le a 0x7F) [
         | yes h ↦ subst (LenRun t (a ∷ s)) (sym (short_length (a ∷ s) (omega arith) h))
-            (run_byte (part.Tag t) a s (byte.Complete t a) (header.length_alone t a h))
+            (run_byte (part.Tag t) a s (Ok (byte.Complete t a)) (header.length_alone t a h))
         | no h ↦ len_above_7f a s (omega (arith, h))
       ]
 

@@ -5,12 +5,13 @@ use Rattle.basis.specs.Number.{be}
 use Rattle.tlv.specs.Tag.{Tag, tag_of}
 use Rattle.tlv.specs.Len.{Len, len_of}
 use Rattle.tlv.specs.declared.Reading.TheVariants.{Crate}
+use Rattle.tlv.specs.declared.stop.Stop.TheVariants as stop
 use Rattle.tlv_write.specs.Written.{tag_bytes}
 use Rattle.tlv_chunks.specs.declared.header.Header.{Header as Part}
 use Rattle.tlv_chunks.specs.declared.header.Header.TheVariants.{Tag1, Tag2, Length81, Length82, Length82High}
 use Rattle.tlv_chunks.specs.declared.header.Header.TheVariants as part
 use Rattle.tlv_chunks.specs.declared.walk.ChunkWalk.{ChunkWalk}
-use Rattle.tlv_chunks.specs.declared.walk.ChunkWalk.TheVariants.{Boundary, Header, Value, End, Unreadable}
+use Rattle.tlv_chunks.specs.declared.walk.ChunkWalk.TheVariants.{Boundary, Header, Value, Stopped}
 
 -- the bytes of a tag, from its number
 abbrev pub own_bytes : ℕ → List ℕ
@@ -41,5 +42,5 @@ abbrev pub Means : List ℕ → ℕ → ChunkWalk → Type 0
 Means s k Boundary = (s ≡ []) × (k ≡ 11)
 Means s k (Header h) = (s ≡ header_bytes h) × (k ≡ 12)
 Means s k (Value n) = Lacks s (n + 1) × (k ≡ 12)
-Means s k End = ⊥
-Means s k Unreadable = k ≡ 12
+Means s k (Stopped stop.End) = ⊥
+Means s k (Stopped stop.Unreadable) = k ≡ 12

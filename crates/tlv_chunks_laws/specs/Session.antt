@@ -1,12 +1,14 @@
 -- A record in chunks, the answers to them, and what these say joined together (rule 18.5): "need more" says nothing, and
 -- a repeated refusal comes once. `flatten` joins lists: the chunks to all bytes, and the answers to each chunk to all
 -- answers.
-use Rattle.std.specs.Prelude.{ℕ, cond, List, [], ◌∷◌, ◌++◌, eqb, drop}
+use Rattle.std.specs.Prelude.{ℕ, Result, Ok, Err, cond, List, [], ◌∷◌, ◌++◌, eqb, drop}
 use Rattle.std.proofs.Math.Option.{Option, none, some}
+use Rattle.tlv.specs.Stop.{stop_number}
+use Rattle.tlv.specs.declared.stop.Stop.{Stop}
 use Rattle.tlv_chunks.specs.Run.{Event, head, end, refusal}
 use Rattle.tlv_chunks.specs.Call.{events_of, TakeIs}
 use Rattle.tlv_chunks.specs.declared.walk.ChunkWalk.{ChunkWalk}
-use Rattle.tlv_chunks.specs.declared.walk.ChunkWalk.TheVariants.{Boundary, Header, Value, End, Unreadable}
+use Rattle.tlv_chunks.specs.declared.walk.ChunkWalk.TheVariants.{Boundary, Header, Value, Stopped}
 use Rattle.tlv_chunks.specs.declared.walk.TakeChunk.{TakeChunk}
 use Rattle.tlv_chunks.specs.declared.walk.TakeChunk.TheVariants as answer
 use Rattle.tlv_chunks.specs.declared.walk.ChunkTaken.{ChunkTaken}
@@ -16,17 +18,15 @@ abbrev pub stopped_by : ChunkWalk → Option ℕ
 stopped_by Boundary = none
 stopped_by (Header h) = none
 stopped_by (Value n) = none
-stopped_by End = some 11
-stopped_by Unreadable = some 12
+stopped_by (Stopped e) = some (stop_number e)
 
 -- the last answer to a chunk: more bytes are needed, or it is a refusal
-abbrev pub LastAnswer : TakeChunk → Type 0
-LastAnswer answer.NeedMore = Unit {0}
-LastAnswer (answer.Head t n) = ⊥
-LastAnswer (answer.Empty t) = ⊥
-LastAnswer answer.ValueEnd = ⊥
-LastAnswer answer.End = Unit {0}
-LastAnswer answer.Unreadable = Unit {0}
+abbrev pub LastAnswer : Result TakeChunk Stop → Type 0
+LastAnswer (Ok answer.NeedMore) = Unit {0}
+LastAnswer (Ok (answer.Head t n)) = ⊥
+LastAnswer (Ok (answer.Empty t)) = ⊥
+LastAnswer (Ok answer.ValueEnd) = ⊥
+LastAnswer (Err e) = Unit {0}
 
 -- the answers to one chunk: it is handed in, and after each answer its rest, up to the last answer. Each is one that
 -- `take` promises

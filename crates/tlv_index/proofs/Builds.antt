@@ -7,7 +7,11 @@ use native.Mathlib.Omega.{arith}
 use borrow.Author.Tests.{lt-ltb, le-ltb, ltb-true, ltb-false}
 use lib.Dec.{ltb}
 use lib.ListN.{length, length-map}
+use Rattle.std.specs.Prelude.{Result, Ok, Err}
 use Rattle.basis.specs.Reply.{ok, refused}
+use Rattle.basis.specs.Refusal.{as_reply}
+use Rattle.basis.specs.declared.refusal.Refusal.{Refusal}
+use Rattle.basis.specs.declared.refusal.Refusal.TheVariants.{DoesNotFit, RecordTooLarge}
 use Rattle.basis.specs.Over.{over_at}
 use Rattle.basis.proofs.Reply.{refused_not_ok}
 use Rattle.tlv.specs.Object.{Item, Stop}
@@ -17,24 +21,23 @@ use Rattle.tlv_index.specs.Index.{Kind, crate_kind, Index, entry_of, index_of, b
 use Rattle.tlv_index.specs.File.{file_of}
 use Rattle.tlv_index.specs.Build.{written, IndexWritten, BuildIndexIs}
 use Rattle.tlv_index.specs.Steps.{Count, counted, index_to}
-use Rattle.tlv_index.specs.declared.build.BuildIndex.{BuildIndex}
-use Rattle.tlv_index.specs.declared.build.BuildIndex.TheVariants.{Written, Refused}
 use Rattle.tlv_index.proofs.Sections.{length_file}
+use Rattle.tlv_index.proofs.Walks.{counted_many}
 
 -- the index of n objects: 16 if its file does not fit, else it is written
-module _ (items : List Item) (i p n : ℕ) (h : length items ≡ n) (b : List ℕ) (at : ℕ) where
+module _ (items : List Item) (e : Stop) (n : ℕ) (h : length items ≡ n) (b : List ℕ) (at : ℕ) where
   abbrev x : Index
-  x = index_to items i p
+  x = index_to items e
 
   pub size : length (file_of 2 x) ≡ 12 + 7 * n
   size = omega (arith, length_file 2 x n (length-map items entry_of ∙ h))
 
-  pub no_room : length b < at + (12 + 7 * n) → IndexWritten x b at (Refused 16) b
+  pub no_room : length b < at + (12 + 7 * n) → IndexWritten (index_to items e) b at (Err DoesNotFit) b
   no_room g = let t = lt-ltb _ _ g in record { reply = rw (size, t); buffer = rw (size, t) }
 
   pub has_room : (after : List ℕ) → at + (12 + 7 * n) ≤ length b → after ≡ over_at at (file_of 2 x) b
-      → IndexWritten x b at (Written (12 + 7 * n)) after
-  has_room after g e = let t = le-ltb _ _ g in record { reply = rw (size, t) (ap ok (sym size)); buffer = e ∙ rw (size, t) }
+      → IndexWritten x b at (Ok (12 + 7 * n)) after
+  has_room after g f = let t = le-ltb _ _ g in record { reply = rw (size, t) (ap ok (sym size)); buffer = f ∙ rw (size, t) }
 
 -- what the count of a walk says
 module _ (w : Walk) where
@@ -78,20 +81,24 @@ module _ (s b : List ℕ) (at : ℕ) where
   abbrev objects : Walk
   objects = walk Crate 0 s
 
-  pub too_long : 65535 < length s → BuildIndexIs s b at (Refused 24) b
+  pub too_long : 65535 < length s → BuildIndexIs s b at (Err RecordTooLarge) b
   unfolding written
   too_long h = let e = built_long crate_kind s h in record { reply = rw e; buffer = rw e }
 
   module _ (h : length s ≤ 65535) where
-    pub too_many : (k : ℕ) → counted objects ≡ refused k → BuildIndexIs s b at (Refused 24) b
+    pub too_many : (y : Result ℕ Refusal) (k : ℕ) → counted objects ≡ refused k → as_reply y ≡ refused k → BuildIndexIs s b at y b
     unfolding written
-    too_many k g = let e = built_many crate_kind s h (counted_24 objects k g) in record { reply = rw e; buffer = rw e }
+    too_many y k g f =
+        let more = counted_24 objects k g in
+        let e = built_many crate_kind s h more in
+        let number : k ≡ 24 = cc (sym g ∙ counted_many objects more) in
+        record { reply = f ∙ rw (number, e); buffer = rw e }
 
-    pub as_counted : (n i p : ℕ) (y : BuildIndex) (after : List ℕ) → counted objects ≡ ok (record { objects = n; stop = record { number = i; place = p } })
-        → IndexWritten (index_to objects.items i p) b at y after → BuildIndexIs s b at y after
+    pub as_counted : (c : Count) (y : Result ℕ Refusal) (after : List ℕ) → counted objects ≡ ok c
+        → IndexWritten (index_to objects.items c.stop) b at y after → BuildIndexIs s b at y after
     unfolding written
-    as_counted n i p y after g f =
-        let says = counted_says objects _ g in
+    as_counted c y after g f =
+        let says = counted_says objects c g in
         let few = built_few crate_kind s h (omega (arith, says.0, says.1)) in
-        let same : ◌≡◌ {A = Index} (index_of objects) (index_to objects.items i p) = ap (λ (e : Stop). record { entries = (index_of objects).entries; stop = e }) says.2 in
+        let same : ◌≡◌ {A = Index} (index_of objects) (index_to objects.items c.stop) = ap (λ (e : Stop). record { entries = (index_of objects).entries; stop = e }) says.2 in
         record { reply = f.reply ∙ rw (few, same); buffer = f.buffer ∙ rw (few, same) }

@@ -1,20 +1,25 @@
 -- The entry used, entry by entry of a file; and the lookup through a file, test by test (rules 17.7 to 17.10).
 use Prim.Native.Nat.{ℕ, suc, ◌+◌, ◌-◌, ◌*◌, ◌≤◌, ◌<◌}
-use mathlib.Core.Path.{◌≡◌, refl, sym, ◌∙◌}
+use native.Mathlib.Nat.{add-sub_cancel_left}
+use mathlib.Core.Path.{◌≡◌, refl, sym, ap, ◌∙◌, subst}
 use mathlib.Core.Bool.{Bool, true, false}
 use mathlib.Core.List.{List, [], ◌∷◌}
 use native.Mathlib.Omega.{arith}
 use borrow.Author.Tests.{eq-eqb, ne_eqb, le-leb, lt-leb}
-use lib.ListN.{length, get_or, drop}
+use lib.Dec.{eqb}
+use lib.ListN.{length, get_or, take, drop, length-take, length-drop}
 use Rattle.basis.specs.Reply.{Told, ok, refused}
 use Rattle.basis.proofs.Reply.{by_reply, refused_not_ok}
+use Rattle.basis.proofs.Over.{rest_is}
 use Rattle.tlv.specs.Object.{Stop}
-use Rattle.tlv.specs.Lookup.{Span, follow}
+use Rattle.tlv.specs.Lookup.{Span, part, Found, Halt, follow, lookup}
 use Rattle.tlv.specs.declared.Reading.{Reading}
-use Rattle.tlv_index.specs.Index.{Kind, Index}
-use Rattle.tlv_index.specs.File.{field, entry_in, entries_from, index_in, is_file, decoded, checked}
+use Rattle.tlv.specs.declared.Reading.TheVariants.{Crate}
+use Rattle.tlv.proofs.Entered.{Tells, entered_by, follow_entered, lookup_tells}
+use Rattle.tlv_index.specs.Index.{Kind, crate_kind}
+use Rattle.tlv_index.specs.File.{field, end_count, file_size, entry_in, entries_from, index_in, is_reason, is_file, decoded, checked}
 use Rattle.tlv_index.specs.Lookup.{value_of, first_entry, used_in, through, indexed}
-use Rattle.tlv_index.proofs.Files.{entries_end, entries_next, checked_ok}
+use Rattle.tlv_index.proofs.Files.{entries_end, entries_next, file_parts, file_reason, checked_ok}
 
 module _ (w n : ℕ) (f : List ℕ) (t i : ℕ) (e : Stop) where
   -- entry number i has the tag, has another tag, or there are no more entries
@@ -42,8 +47,8 @@ none : (path : List ℕ) → length path ≡ 0 → path ≡ []
 none [] h = refl
 none (t ∷ path) h = absurd (omega arith)
 
-first : (path : List ℕ) → 1 ≤ length path → path ≡ get_or path 0 0 ∷ drop 1 path
-first [] h = absurd (omega arith)
+first : (path : List ℕ) → eqb (length path) 0 ≡ false → path ≡ get_or path 0 0 ∷ drop 1 path
+first [] h = cc
 first (t ∷ path) h = refl
 
 module _ (k : Kind) (f : List ℕ) where
@@ -56,25 +61,47 @@ module _ (k : Kind) (f : List ℕ) where
       by_form true h e = (h, cc (sym (checked_ok k.width (field 2 0 f) f refl k refl h) ∙ e))
       by_form false h e = absurd (refused_not_ok 25 n (rw h at e))
 
-  pub decoded_file : (n : ℕ) → is_file k.width f ≡ true → n ≡ field 2 0 f → decoded k.width f ≡ ok (index_in k.width n f)
-  unfolding decoded
-  decoded_file n h e = rw (h, e)
-
-  -- a lookup through a file of another form; of an empty path; and of a path with a first tag
+  -- a lookup through a file of another form
   module _ (s path : List ℕ) where
     pub indexed_refused : (j : ℕ) → checked k f ≡ refused j → indexed k f s path ≡ refused j
     unfolding checked indexed
     indexed_refused j e = by_reply (decoded k.width f) (λ x g. absurd (refused_not_ok j _ (sym (rw g at e)))) (λ i g. let same : i ≡ j = cc (rw g at e) in rw (g, same))
 
-    pub indexed_empty : (x : Index) → decoded k.width f ≡ ok x → length path ≡ 0
-        → indexed k f s path ≡ ok (ok (record { at = 0; len = length s; matched = 0 }))
-    unfolding indexed through
-    indexed_empty x e h = rw (e, none path h)
+    -- through a file of n entries: of an empty path, and of a path with a first tag
+    module _ (n : ℕ) (e : checked k f ≡ ok n) where
+      decoded_file : decoded k.width f ≡ ok (index_in k.width n f)
+      unfolding decoded
+      decoded_file = let c = checked_file n e in rw (c.0, c.1)
 
-    pub indexed_used : (x : Index) → decoded k.width f ≡ ok x → 1 ≤ length path
-        → indexed k f s path ≡ used_in k.reading s (drop 1 path) (first_entry (get_or path 0 0) x.entries x.stop)
-    unfolding indexed through
-    indexed_used x e h = rw (e, first path h)
+      pub indexed_empty : length path ≡ 0 → indexed k f s path ≡ ok (ok (record { at = 0; len = length s; matched = 0 }))
+      unfolding indexed through
+      indexed_empty h = rw (decoded_file, none path h)
+
+      pub indexed_used : eqb (length path) 0 ≡ false
+          → indexed k f s path ≡ used_in k.reading s (drop 1 path) (first_entry (get_or path 0 0) (index_in k.width n f).entries (index_in k.width n f).stop)
+      unfolding indexed through
+      indexed_used h = rw (decoded_file, first path h)
+
+-- what holds of a file of n entries
+pub entries_of_file : (n : ℕ) (f : List ℕ) → checked crate_kind f ≡ ok n
+    → (file_size 2 n ≡ length f) × (is_reason (field 2 (end_count 2 n + 2) f) ≡ true)
+entries_of_file n f e =
+    let c = checked_file crate_kind f n e in
+    let p = file_parts 2 n f c.1 c.0 in
+    (sym p.1, file_reason 2 n f c.1 c.0)
+
+-- a value in the record that is entered: the lookup in its bytes, with its places moved and one tag more that matched
+module _ (s path : List ℕ) (a n : ℕ) (h : a + n ≤ length s) (x : Told Halt Found) where
+  pub entered : x ≡ lookup Crate (take (a + n - a) (drop a s)) (take (length path - 1) (drop 1 path))
+      → (follow Crate s 1 (record { at = a; len = n }) (drop 1 path) ≡ entered_by a 1 x) × Tells n (length (drop 1 path)) x
+  entered e =
+      let bytes = part s (record { at = a; len = n }) in
+      let in-value : take (a + n - a) (drop a s) ≡ bytes = rw add-sub_cancel_left in
+      let found : x ≡ lookup Crate bytes (drop 1 path) = e ∙ (λ j. lookup Crate (in-value j) (rest_is 1 path j)) in
+      let size : length bytes ≡ n = omega (arith, length-take n (drop a s), length-drop a s) in (
+        follow_entered Crate s 1 a n (drop 1 path) h ∙ ap (entered_by a 1) (sym found),
+        rw size at (subst (Tells (length bytes) (length (drop 1 path))) (sym found) (lookup_tells Crate bytes (drop 1 path))),
+      )
 
 -- from the entry used on: its value lies in the record or not, or the place of the end does
 module _ (r : Reading) (s path : List ℕ) {x : Told Stop Span} where

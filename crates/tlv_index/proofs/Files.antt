@@ -42,21 +42,9 @@ module _ (w n : ℕ) (f : List ℕ) where
   unfolding ends_as
   one_end e = rw (eq-eqb _ 1 e)
 
-  pub other_end : (field 2 (end_count w n) f ≡ 1 → ⊥) → ends_as w n f ≡ false
-  unfolding ends_as
-  other_end e = rw (ne_eqb _ 1 e)
-
   pub counts_same : field 2 (places_count w n) f ≡ n → field 2 (lengths_count w n) f ≡ n → counts_agree w n f ≡ ends_as w n f
   unfolding counts_agree
   counts_same e g = rw (eq-eqb _ n e, eq-eqb _ n g)
-
-  pub places_other : (field 2 (places_count w n) f ≡ n → ⊥) → counts_agree w n f ≡ false
-  unfolding counts_agree
-  places_other e = rw (ne_eqb _ n e)
-
-  pub lengths_other : field 2 (places_count w n) f ≡ n → (field 2 (lengths_count w n) f ≡ n → ⊥) → counts_agree w n f ≡ false
-  unfolding counts_agree
-  lengths_other e g = rw (eq-eqb _ n e, ne_eqb _ n g)
 
   -- as many entries as are asked for
   pub length_entries : (k i : ℕ) → length (entries_from w n f i k) ≡ k

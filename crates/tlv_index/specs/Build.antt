@@ -1,11 +1,11 @@
 -- An index written into a buffer from a place (rule 17.4; refusals 24 and 16, in this order).
-use Rattle.std.specs.Prelude.{ℕ, ◌+◌, ◌≡◌, cond, List, ltb, length}
+use Rattle.std.specs.Prelude.{ℕ, ◌+◌, ◌≡◌, Result, cond, List, ltb, length}
 use Rattle.basis.specs.Reply.{Reply, ok, refused, then}
 use Rattle.basis.specs.Over.{over_at}
+use Rattle.basis.specs.Refusal.{as_reply}
+use Rattle.basis.specs.declared.refusal.Refusal.{Refusal}
 use Rattle.tlv_index.specs.Index.{Kind, crate_kind, Index, built}
 use Rattle.tlv_index.specs.File.{file_of}
-use Rattle.tlv_index.specs.declared.build.BuildIndex.{BuildIndex}
-use Rattle.tlv_index.specs.declared.build.BuildIndex.TheVariants as build
 
 -- the bytes of the file of a record's index: 24 comes before 16
 abbrev pub built_file : Kind → List ℕ → Reply (List ℕ)
@@ -26,17 +26,12 @@ abbrev pub buffer_after : ℕ → List ℕ → Reply (List ℕ) → List ℕ
 buffer_after at b (ok f) = over_at at f b
 buffer_after at b (refused k) = b
 
--- an answer of the code as a reply
-abbrev pub as_reply : BuildIndex → Reply ℕ
-as_reply (build.Written n) = ok n
-as_reply (build.Refused k) = refused k
-
 -- the promise of a function that writes the index x into the buffer b from a place, of the crate's kind
-pub record IndexWritten (x : Index) (b : List ℕ) (at : ℕ) (y : BuildIndex) (after : List ℕ) : Type 0 where
+pub record IndexWritten (x : Index) (b : List ℕ) (at : ℕ) (y : Result ℕ Refusal) (after : List ℕ) : Type 0 where
   pub reply : as_reply y ≡ size_reply (fitting at (length b) (file_of 2 x))
   pub buffer : after ≡ buffer_after at b (fitting at (length b) (file_of 2 x))
 
 -- the promise of `build_index`
-pub record BuildIndexIs (s b : List ℕ) (at : ℕ) (x : BuildIndex) (after : List ℕ) : Type 0 where
+pub record BuildIndexIs (s b : List ℕ) (at : ℕ) (x : Result ℕ Refusal) (after : List ℕ) : Type 0 where
   pub reply : as_reply x ≡ size_reply (written crate_kind at (length b) s)
   pub buffer : after ≡ buffer_after at b (written crate_kind at (length b) s)

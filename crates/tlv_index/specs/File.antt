@@ -1,12 +1,12 @@
 -- The file of an index: four sections in fixed order, each after its two-byte count of entries (rules 17.4 to 17.6,
 -- refusal 25). w is the number of bytes of a place and of a length.
-use Rattle.std.specs.Prelude.{ℕ, zero, suc, ◌+◌, ◌*◌, ◌≡◌, Bool, true, false, cond, List, [], ◌∷◌, ◌++◌, map, leb, eqb, length, take, drop}
+use Rattle.std.specs.Prelude.{ℕ, zero, suc, ◌+◌, ◌*◌, ◌≡◌, Result, Bool, true, false, cond, List, [], ◌∷◌, ◌++◌, map, leb, eqb, length, take, drop}
 use Rattle.basis.specs.Reply.{Reply, ok, refused, then}
 use Rattle.basis.specs.Number.{be, number}
+use Rattle.basis.specs.Refusal.{as_reply}
+use Rattle.basis.specs.declared.refusal.Refusal.{Refusal}
 use Rattle.tlv.specs.Object.{Stop}
 use Rattle.tlv_index.specs.Index.{Kind, crate_kind, Entry, Index}
-use Rattle.tlv_index.specs.declared.file.CheckIndex.{CheckIndex}
-use Rattle.tlv_index.specs.declared.file.CheckIndex.TheVariants as check
 
 -- numbers of w bytes each; a section: how many they are, in two bytes, and the numbers
 unfoldable pub fields : ℕ → List ℕ → List ℕ
@@ -87,14 +87,9 @@ is_file w f =
 unfoldable pub decoded : ℕ → List ℕ → Reply Index
 decoded w f = cond (is_file w f) (ok (index_in w (field 2 0 f) f)) (refused 25)
 
--- an answer of the code as a reply
-abbrev pub as_reply : CheckIndex → Reply ℕ
-as_reply (check.Entries n) = ok n
-as_reply (check.Refused k) = refused k
-
 -- the promise of `check_index`: how many entries the index in the file has
 unfoldable pub checked : Kind → List ℕ → Reply ℕ
 checked k f = then (decoded k.width f) (λ x. ok (length x.entries))
 
-abbrev pub CheckIndexIs : List ℕ → CheckIndex → Type 0
+abbrev pub CheckIndexIs : List ℕ → Result ℕ Refusal → Type 0
 CheckIndexIs f r = as_reply r ≡ checked crate_kind f

@@ -1,15 +1,15 @@
 -- The lookup through an index (rules 17.7 to 17.10, refusal 25).
-use Rattle.std.specs.Prelude.{ℕ, ◌+◌, ◌≡◌, cond, List, [], ◌∷◌, leb, eqb, length}
+use Rattle.std.specs.Prelude.{ℕ, ◌+◌, ◌≡◌, Result, Ok, Err, cond, List, [], ◌∷◌, leb, eqb, length}
 use Rattle.basis.specs.Reply.{Told, Reply, ok, refused, then}
+use Rattle.basis.specs.Refusal.{refusal_number}
+use Rattle.basis.specs.declared.refusal.Refusal.{Refusal}
 use Rattle.tlv.specs.Object.{Stop}
-use Rattle.tlv.specs.Lookup.{Span, whole_record, Found, Halt, found_by, follow}
+use Rattle.tlv.specs.Lookup.{Span, whole_record, Found, Halt, found_by, follow, as_reply}
 use Rattle.tlv.specs.declared.Reading.{Reading}
+use Rattle.tlv.specs.declared.lookup.Found as code_found
+use Rattle.tlv.specs.declared.lookup.Halt as code_halt
 use Rattle.tlv_index.specs.Index.{Kind, crate_kind, Entry, Index}
 use Rattle.tlv_index.specs.File.{decoded}
-use Rattle.tlv_index.specs.declared.lookup.Sought.{Sought}
-use Rattle.tlv_index.specs.declared.lookup.Sought.TheVariants as sought
-use Rattle.tlv_index.specs.declared.lookup.GetIndexed.{GetIndexed}
-use Rattle.tlv_index.specs.declared.lookup.GetIndexed.TheVariants as get
 
 -- where the value of an entry stands
 abbrev pub value_of : Entry → Span
@@ -37,18 +37,11 @@ through r x s (t ∷ path) = used_in r s path (first_entry t x.entries x.stop)
 unfoldable pub indexed : Kind → List ℕ → List ℕ → List ℕ → Reply (Told Halt Found)
 indexed k f s path = then (decoded k.width f) (λ x. through k.reading x s path)
 
--- an answer of the code as a reply: for a tag, and for the path
-abbrev pub sought_reply : Sought → Told Stop Span
-sought_reply (sought.Value a n) = ok (record { at = a; len = n })
-sought_reply (sought.End p) = refused (record { number = 11; place = p })
-sought_reply (sought.Unreadable p) = refused (record { number = 12; place = p })
-
-abbrev pub as_reply : GetIndexed → Reply (Told Halt Found)
-as_reply (get.Value a n m) = ok (ok (record { at = a; len = n; matched = m }))
-as_reply (get.End p m) = ok (refused (record { number = 11; place = p; matched = m }))
-as_reply (get.Unreadable p m) = ok (refused (record { number = 12; place = p; matched = m }))
-as_reply (get.Refused k) = refused k
+-- an answer of the code as a reply
+abbrev pub indexed_reply : Result (Result code_found.Found code_halt.Halt) Refusal → Reply (Told Halt Found)
+indexed_reply (Ok x) = ok (as_reply x)
+indexed_reply (Err k) = refused (refusal_number k)
 
 -- the promise of `get_indexed`
-abbrev pub GetIndexedIs : List ℕ → List ℕ → List ℕ → GetIndexed → Type 0
-GetIndexedIs f s path x = as_reply x ≡ indexed crate_kind f s path
+abbrev pub GetIndexedIs : List ℕ → List ℕ → List ℕ → Result (Result code_found.Found code_halt.Halt) Refusal → Type 0
+GetIndexedIs f s path x = indexed_reply x ≡ indexed crate_kind f s path

@@ -1,6 +1,7 @@
 // An index built from a record, and written as the bytes of its file (rules 17.1 to 17.4).
 ghost use Rattle.std.specs.Prelude.{◌≡◌, ◌+◌, ◌≤◌, ◌<◌, length};
 ghost use Rattle.basis.specs.Over.{over, over_at};
+ghost use Rattle.tlv.specs.Object.{stop_of};
 ghost use Rattle.tlv.specs.Walk.{walk};
 ghost use Rattle.tlv.specs.declared.Reading.TheVariants.{Crate};
 ghost use Rattle.tlv_index.specs.Index.{index_of};
@@ -8,59 +9,50 @@ ghost use Rattle.tlv_index.specs.File.{end_section, file_of, end_count, file_siz
 ghost use Rattle.tlv_index.specs.Build.{IndexWritten, BuildIndexIs};
 ghost use Rattle.tlv_index.specs.Steps.{counted_reply, counted, entry_put, entries_put, counts_put, index_to};
 
-use crate::numbers::{put_three_bytes, put_two_bytes};
-use tlv::{Reading, TakeDataObject, take_data_object};
+use crate::numbers::put_number;
+use basis::Refusal;
+use tlv::{DataObject, Reading, StopAt, take_data_object};
 
-// How many bytes were written; refused if the record is above 65,535 bytes or has more than 255 objects (24), or if the
-// index does not fit from the place (16).
+// How many objects a record has, and where its walk stops.
 #[derive(Clone, Copy)]
-pub enum BuildIndex {
-    Written(usize),
-    Refused(u8),
+pub struct Counted {
+    pub objects: usize,
+    pub stop: StopAt,
 }
 
-// How many objects a record has, and the place of its end (11) or of the first object that cannot be read (12); or it
-// has more than 255.
-#[derive(Clone, Copy)]
-pub enum Counted {
-    End(usize, usize),
-    Unreadable(usize, usize),
-    TooMany,
-}
-
-// Walks a record and counts its objects (rules 17.2 and 17.3).
-fn count_objects(record: &[u8]) -> Counted
+// Walks a record and counts its objects (rules 17.2 and 17.3). More than 255 are refused (24).
+fn count_objects(record: &[u8]) -> Result<Counted, Refusal>
     ensures { counted_reply result ≡ counted (walk Crate 0 «record».now) }
 {
     let mut at = 0;
-    let mut n = 0;
+    let mut objects = 0;
     loop {
         match take_data_object(Reading::Crate, record, at) {
-            TakeDataObject::End(place) => {
-                return Counted::End(n, place);
+            Err(stop) => {
+                return Ok(Counted { objects, stop });
             }
-            TakeDataObject::Unreadable(place) => {
-                return Counted::Unreadable(n, place);
-            }
-            TakeDataObject::Object(_, _, value, len) => {
-                if n == 255 {
-                    return Counted::TooMany;
+            Ok(object) => {
+                if objects == 255 {
+                    return Err(Refusal::RecordTooLarge);
                 }
-                n += 1;
-                at = value + len;
+                objects += 1;
+                at = object.at + object.len;
             }
         }
     }
 }
 
-// Writes entry number i of n: its length, its place and its tag, each into its section.
-fn put_entry(file: &mut [u8], n: usize, i: usize, tag: u32, at: usize, len: usize)
+// Stays: (file, n) in the functions below, with what is required of them. A struct that holds the lent slice would have
+// each contract say also that it keeps that slice.
+
+// Writes entry number i of n: the object's length, its place and its tag, each into its section.
+fn put_entry(file: &mut [u8], n: usize, i: usize, object: DataObject)
     requires { (i < n) × (n ≤ 255) × (file_size 2 n ≤ length file.old) }
-    ensures { file.new ≡ entry_put 2 n i (record { tag = tag; at = at; len = len }) file.old }
+    ensures { file.new ≡ entry_put 2 n i (record { tag = object.tag; at = object.at; len = object.len }) file.old }
 {
-    put_two_bytes(file, 6 + 5 * n + 2 * i, len);
-    put_two_bytes(file, 4 + 3 * n + 2 * i, at);
-    put_three_bytes(file, 2 + 3 * i, tag as usize);
+    put_number::<2>(file, 6 + 5 * n + 2 * i, object.len);
+    put_number::<2>(file, 4 + 3 * n + 2 * i, object.at);
+    put_number::<3>(file, 2 + 3 * i, object.tag as usize);
 }
 
 // Walks a record of n objects again and writes its entries.
@@ -69,33 +61,24 @@ fn put_entries(record: &[u8], file: &mut [u8], n: usize)
     ensures { file.new ≡ entries_put 2 n 0 (index_of (walk Crate 0 «record».now)).entries file.old }
 {
     let mut at = 0;
-    let mut i = 0;
-    loop {
-        match take_data_object(Reading::Crate, record, at) {
-            TakeDataObject::End(_) => {
-                return;
-            }
-            TakeDataObject::Unreadable(_) => {
-                return;
-            }
-            TakeDataObject::Object(_, tag, value, len) => {
-                put_entry(file, n, i, tag, value, len);
-                i += 1;
-                at = value + len;
-            }
-        }
+    for i in 0..n {
+        let Ok(object) = take_data_object(Reading::Crate, record, at) else {
+            return;
+        };
+        put_entry(file, n, i, object);
+        at = object.at + object.len;
     }
 }
 
 // Writes the last section of a file of n entries: its count, the reason and the place.
-fn put_end(file: &mut [u8], n: usize, reason: usize, place: usize)
+fn put_end(file: &mut [u8], n: usize, stop: StopAt)
     requires { (n ≤ 255) × (file_size 2 n ≤ length file.old) }
-    ensures { file.new ≡ over_at (end_count 2 n) (end_section 2 (record { number = reason; place = place })) file.old }
+    ensures { file.new ≡ over_at (end_count 2 n) (end_section 2 (stop_of stop)) file.old }
 {
     let end = 6 + 7 * n;
-    put_two_bytes(file, end, 1);
-    put_two_bytes(file, end + 2, reason);
-    put_two_bytes(file, end + 4, place);
+    put_number::<2>(file, end, 1);
+    put_number::<2>(file, end + 2, usize::from(stop.stop.number()));
+    put_number::<2>(file, end + 4, stop.place);
 }
 
 // Writes the counts of the first three sections.
@@ -103,56 +86,50 @@ fn put_counts(file: &mut [u8], n: usize)
     requires { (n ≤ 255) × (file_size 2 n ≤ length file.old) }
     ensures { file.new ≡ counts_put 2 n file.old }
 {
-    put_two_bytes(file, 4 + 5 * n, n);
-    put_two_bytes(file, 2 + 3 * n, n);
-    put_two_bytes(file, 0, n);
+    put_number::<2>(file, 4 + 5 * n, n);
+    put_number::<2>(file, 2 + 3 * n, n);
+    put_number::<2>(file, 0, n);
 }
 
-// Writes the index of a record of n objects over the front of a part.
-fn put_index(record: &[u8], file: &mut [u8], n: usize, reason: usize, place: usize)
-    requires { (length (walk Crate 0 «record».now).items ≡ n) × (n ≤ 255) × (file_size 2 n ≤ length file.old) }
-    ensures { file.new ≡ over (file_of 2 (index_to (walk Crate 0 «record».now).items reason place)) file.old }
+// Writes the index of a record over the front of a part.
+fn put_index(record: &[u8], file: &mut [u8], counted: Counted)
+    requires { (length (walk Crate 0 «record».now).items ≡ counted.objects) × (counted.objects ≤ 255) × (file_size 2 counted.objects ≤ length file.old) }
+    ensures { file.new ≡ over (file_of 2 (index_to (walk Crate 0 «record».now).items (stop_of counted.stop))) file.old }
 {
-    put_end(file, n, reason, place);
-    put_entries(record, file, n);
-    put_counts(file, n);
+    put_end(file, counted.objects, counted.stop);
+    put_entries(record, file, counted.objects);
+    put_counts(file, counted.objects);
 }
 
-// Writes the index of a record of n objects into a buffer from a place, if it fits.
+// Writes the index of a record into a buffer from a place, if it fits, and says how many bytes it has; else it is
+// refused (16).
 fn write_index(
     record: &[u8],
     buffer: &mut [u8],
     at: usize,
-    n: usize,
-    reason: usize,
-    place: usize,
-) -> BuildIndex
-    requires { (length (walk Crate 0 «record».now).items ≡ n) × (n ≤ 255) }
-    ensures { IndexWritten (index_to (walk Crate 0 «record».now).items reason place) buffer.old at result
+    counted: Counted,
+) -> Result<usize, Refusal>
+    requires { (length (walk Crate 0 «record».now).items ≡ counted.objects) × (counted.objects ≤ 255) }
+    ensures { IndexWritten (index_to (walk Crate 0 «record».now).items (stop_of counted.stop)) buffer.old at result
         buffer.new }
 {
-    let size = 12 + 7 * n;
-    if buffer.len() < at {
-        return BuildIndex::Refused(16);
+    let size = 12 + 7 * counted.objects;
+    if buffer.len() < at || buffer.len() - at < size {
+        return Err(Refusal::DoesNotFit);
     }
-    if buffer.len() - at < size {
-        return BuildIndex::Refused(16);
-    }
-    put_index(record, &mut buffer[at..], n, reason, place);
-    BuildIndex::Written(size)
+    put_index(record, &mut buffer[at..], counted);
+    Ok(size)
 }
 
-// Builds the index of a record, and writes it into a buffer from a place (rule 17.4). Bytes before it and after it
-// stay. A refusal changes nothing.
-pub fn build_index(record: &[u8], buffer: &mut [u8], at: usize) -> BuildIndex
+// Builds the index of a record, writes it into a buffer from a place (rule 17.4), and says how many bytes were written.
+// Bytes before it and after it stay. Refused if the record is above 65,535 bytes or has more than 255 objects (24), or
+// if the index does not fit from the place (16). A refusal changes nothing.
+pub fn build_index(record: &[u8], buffer: &mut [u8], at: usize) -> Result<usize, Refusal>
     ensures { BuildIndexIs «record».now buffer.old at result buffer.new }
 {
     if 65535 < record.len() {
-        return BuildIndex::Refused(24);
+        return Err(Refusal::RecordTooLarge);
     }
-    match count_objects(record) {
-        Counted::TooMany => BuildIndex::Refused(24),
-        Counted::End(n, place) => write_index(record, buffer, at, n, 11, place),
-        Counted::Unreadable(n, place) => write_index(record, buffer, at, n, 12, place),
-    }
+    let counted = count_objects(record)?;
+    write_index(record, buffer, at, counted)
 }

@@ -2,63 +2,61 @@
 ghost use Rattle.std.specs.Prelude.{◌≡◌, length};
 ghost use Rattle.tlv_index.specs.File.{file_size, is_reason, ends_as, counts_agree, CheckIndexIs};
 
-use crate::numbers::two_bytes;
-
-// How many entries the file has; refused if it has another form (25).
-#[derive(Clone, Copy)]
-pub enum CheckIndex {
-    Entries(usize),
-    Refused(u8),
-}
+use crate::numbers::number_at;
+use basis::Refusal;
 
 // Whether a number is 11 or 12.
+#[tactic(auto, unfolding(crate::specs::File::is_reason))]
 fn is_reason(number: usize) -> bool
     ensures { result ≡ is_reason number }
 {
-    if number == 11 {
-        return true;
-    }
-    number == 12
+    number == 11 || number == 12
 }
 
-// Whether the last section of a file of n entries has one entry, and its reason is 11 or 12.
-fn ends_as(file: &[u8], n: usize) -> bool
-    requires { file_size 2 n ≡ length file.now }
-    ensures { result ≡ ends_as 2 n file.now }
-{
-    if two_bytes(file, 6 + 7 * n) == 1 {
-        return is_reason(two_bytes(file, 8 + 7 * n));
-    }
-    false
+// A file that is as long as that of an index of n entries.
+#[derive(Clone, Copy)]
+pub(crate) struct IndexFile<'a> {
+    pub bytes: &'a [u8],
+    pub n: usize,
+    ghost size: { file_size 2 n ≡ length bytes.now },
 }
 
-// Whether the counts of the second and the third section are n, and the last section is right.
-fn counts_agree(file: &[u8], n: usize) -> bool
-    requires { file_size 2 n ≡ length file.now }
-    ensures { result ≡ counts_agree 2 n file.now }
-{
-    if two_bytes(file, 2 + 3 * n) == n {
-        if two_bytes(file, 4 + 5 * n) == n {
-            return ends_as(file, n);
-        }
+impl<'a> IndexFile<'a> {
+    // Whether the last section has one entry, and its reason is 11 or 12.
+    #[tactic(auto, unfolding(crate::specs::File::ends_as))]
+    fn ends_as(self) -> bool
+        ensures { result ≡ ends_as 2 self.entry.n self.entry.bytes.now }
+    {
+        number_at::<2>(self.bytes, 6 + 7 * self.n) == 1
+            && is_reason(number_at::<2>(self.bytes, 8 + 7 * self.n))
     }
-    false
+
+    // Whether the counts of the second and the third section are n, and the last section is right.
+    #[tactic(auto, unfolding(crate::specs::File::counts_agree))]
+    fn counts_agree(self) -> bool
+        ensures { result ≡ counts_agree 2 self.entry.n self.entry.bytes.now }
+    {
+        number_at::<2>(self.bytes, 2 + 3 * self.n) == self.n
+            && number_at::<2>(self.bytes, 4 + 5 * self.n) == self.n
+            && self.ends_as()
+    }
 }
 
-// Checks the form of a file: 25 if it has another one (rule 17.6). Nothing is converted: the file is the index.
-pub fn check_index(file: &[u8]) -> CheckIndex
+// Checks the form of a file: how many entries it has, or 25 if it has another form (rule 17.6). Nothing is converted:
+// the file is the index.
+#[tactic(auto, using(crate::proofs::Files::too_short, crate::proofs::Files::too_many, crate::proofs::Files::other_size, crate::proofs::Files::right_size, crate::proofs::Files::checked_ok, crate::proofs::Files::checked_refused))]
+pub fn check_index(file: &[u8]) -> Result<usize, Refusal>
     ensures { CheckIndexIs file.now result }
 {
     if file.len() < 2 {
-        return CheckIndex::Refused(25);
+        return Err(Refusal::NotAnIndex);
     }
-    let n = two_bytes(file, 0);
-    if n <= 255 {
-        if file.len() == 12 + 7 * n {
-            if counts_agree(file, n) {
-                return CheckIndex::Entries(n);
-            }
+    let n = number_at::<2>(file, 0);
+    if n <= 255 && file.len() == 12 + 7 * n {
+        let index = IndexFile { bytes: file, n };
+        if index.counts_agree() {
+            return Ok(n);
         }
     }
-    CheckIndex::Refused(25)
+    Err(Refusal::NotAnIndex)
 }

@@ -7,6 +7,6 @@ mod file;
 mod lookup;
 mod numbers;
 
-pub use build::{BuildIndex, build_index};
-pub use file::{CheckIndex, check_index};
-pub use lookup::{GetIndexed, get_indexed};
+pub use build::build_index;
+pub use file::check_index;
+pub use lookup::get_indexed;

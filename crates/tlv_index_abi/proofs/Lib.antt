@@ -1,10 +1,8 @@
 -- Laws of the exported functions of an index.
---   no_row, build_refused, index_written (Building): the promise of `gorvisclen_build_index`, from what it called
 --   gorvisclen_build_index, gorvisclen_check_index, gorvisclen_get_indexed (OneReply): each promise allows one reply
 --     and one content of the lent slices
 --   ForHosts: what a host sees of each, in plain words: the status, the bytes and the numbers, with a row that is long
 --     enough (index_told, refusal_told; entries_told, form_told; value_told, halt_told, outside_told) and with one that
 --     is too short (no_number; .._not_told)
-pub mod Building
 pub mod OneReply
 pub mod ForHosts

@@ -7,8 +7,7 @@ ghost use Rattle.abi.specs.Answers.{NumbersWritten};
 ghost use Rattle.tlv_index_abi.specs.Told.{IndexBuilt, check_index_reply, IndexedTold};
 
 use abi::{refusal_status, tell_lookup, write_numbers};
-use tlv::GetDataObject;
-use tlv_index::{BuildIndex, CheckIndex, GetIndexed, build_index, check_index, get_indexed};
+use tlv_index::{build_index, check_index, get_indexed};
 
 // Builds the index of a record, writes its file into the buffer from a place, and writes to `out` how many bytes these
 // are (rule 17.4). If `out` is too short nothing is built: 16, which is below 24 (rule 1.22).
@@ -21,26 +20,24 @@ pub extern "C" fn gorvisclen_build_index(
 ) -> u8
     ensures { IndexBuilt «record».now at buffer.old out.old result buffer.new out.new }
 {
-    if out.len() < 1 {
+    if out.is_empty() {
         return 16;
     }
     match build_index(record, buffer, at) {
-        BuildIndex::Refused(k) => k,
-        BuildIndex::Written(n) => {
-            out[0] = n as u64;
-            0
-        }
+        Err(refusal) => refusal.number(),
+        Ok(size) => write_numbers(&[size as u64], out),
     }
 }
 
 // Writes 1 number: how many entries the index in the file has (rule 17.6).
+#[tactic(auto, unfolding(crate::specs::Told::check_index_reply))]
 #[unsafe(no_mangle)]
 pub extern "C" fn gorvisclen_check_index(file: &[u8], out: &mut [u64]) -> u8
     ensures { NumbersWritten 1 (check_index_reply file.now) out.old result out.new }
 {
     match check_index(file) {
-        CheckIndex::Refused(k) => refusal_status(k, out.len(), 1),
-        CheckIndex::Entries(n) => write_numbers(&[n as u64], out),
+        Err(refusal) => refusal_status(refusal.number(), out.len(), 1),
+        Ok(n) => write_numbers(&[n as u64], out),
     }
 }
 
@@ -56,13 +53,7 @@ pub extern "C" fn gorvisclen_get_indexed(
     ensures { IndexedTold file.now «record».now path.now out.old result out.new }
 {
     match get_indexed(file, record, path) {
-        GetIndexed::Refused(k) => refusal_status(k, out.len(), 3),
-        GetIndexed::End(place, matched) => tell_lookup(GetDataObject::End(place, matched), out),
-        GetIndexed::Unreadable(place, matched) => {
-            tell_lookup(GetDataObject::Unreadable(place, matched), out)
-        }
-        GetIndexed::Value(at, len, matched) => {
-            tell_lookup(GetDataObject::Value(at, len, matched), out)
-        }
+        Err(refusal) => refusal_status(refusal.number(), out.len(), 3),
+        Ok(answer) => tell_lookup(answer, out),
     }
 }

@@ -15,14 +15,15 @@ use Rattle.basis.proofs.Every.{every_weaken}
 use Rattle.basis.proofs.Reply.{by_reply, refused_not_ok}
 use Rattle.tlv.specs.Walk.{walk}
 use Rattle.tlv.specs.Lookup.{part}
+use Rattle.std.specs.Prelude.{Ok, Err}
+use Rattle.basis.specs.Refusal.{refusal_number}
+use Rattle.basis.specs.declared.refusal.Refusal.{Refusal}
 use Rattle.tlv.specs.declared.Reading.TheVariants.{Crate}
 use Rattle.tlv_laws.proofs.TruthValues.{by_test}
 use Rattle.tlv_index.specs.Index.{Kind, crate_kind, Entry, Index, entry_of, built}
 use Rattle.tlv_index.specs.File.{fields, section, end_section, file_of, decoded}
 use Rattle.tlv_index.specs.Build.{written, BuildIndexIs}
 use Rattle.tlv_index.specs.Lookup.{through, indexed, GetIndexedIs}
-use Rattle.tlv_index.specs.declared.build.BuildIndex.TheVariants.{Written, Refused}
-use Rattle.tlv_index.specs.declared.lookup.GetIndexed.TheVariants as get
 use Rattle.tlv_index.proofs.Builds.{built_long, built_many}
 use Rattle.tlv_index.proofs.Sections.{length_file}
 use Rattle.tlv_index_laws.specs.Used.{Others, Uses}
@@ -101,7 +102,7 @@ module _ (s b : List ℕ) (at : ℕ) (after : List ℕ) where
   abbrev objects : ℕ
   objects = length (walk Crate 0 s).items
 
-  pub build_written : (n : ℕ) → BuildIndexIs s b at (Written n) after
+  pub build_written : (n : ℕ) → BuildIndexIs s b at (Ok n) after
       → (length s ≤ 65535) × (length (walk Crate 0 s).items ≤ 255) × (n ≡ 12 + 7 * length (walk Crate 0 s).items) × (at + n ≤ length b)
   build_written n p =
       let told = sym p.reply in
@@ -119,9 +120,10 @@ module _ (s b : List ℕ) (at : ℕ) (after : List ℕ) where
       ((j ≡ 24) × ((65535 < length s) ⊎ (255 < length (walk Crate 0 s).items)))
       ⊎ ((j ≡ 16) × (length s ≤ 65535) × (length (walk Crate 0 s).items ≤ 255) × (length b < at + (12 + 7 * length (walk Crate 0 s).items)))
 
-  pub build_refused : (j : ℕ) → BuildIndexIs s b at (Refused j) after → (after ≡ b) × Why j
+  pub build_refused : (k : Refusal) → BuildIndexIs s b at (Err k) after → (after ≡ b) × Why (refusal_number k)
   unfolding written
-  build_refused j p =
+  build_refused k p =
+      let j = refusal_number k in
       let told = sym p.reply in
       by_reply (built crate_kind s) (λ x e.
       by_test (ltb (length b) (at + length (file_of 2 x))) (λ t.
@@ -137,19 +139,19 @@ module _ (s b : List ℕ) (at : ℕ) (after : List ℕ) where
       (p.buffer ∙ rw e, inl (sym number ∙ why.0, why.1)))
 
 -- what `get_indexed` refuses: 25, for bytes that are no file, or for the entry used
-module _ (f s : List ℕ) (k : ℕ) where
+module _ (f s : List ℕ) (k : Refusal) where
   abbrev NoFile : Type 0
   NoFile = (x : Index) → Fits 2 x → file_of 2 x ≡ f → ⊥
 
   abbrev Past : ℕ → Index → Type 0
   Past t x = ((e : Entry) × Uses x t e × (length s < e.at + e.len)) ⊎ (Others t x.entries × (length s < x.stop.place))
 
-  pub get_refused : (t : ℕ) (path : List ℕ) → GetIndexedIs f s (t ∷ path) (get.Refused k)
-      → (k ≡ 25) × (NoFile ⊎ ((x : Index) × (decoded 2 f ≡ ok x) × Past t x))
+  pub get_refused : (t : ℕ) (path : List ℕ) → GetIndexedIs f s (t ∷ path) (Err k)
+      → (refusal_number k ≡ 25) × (NoFile ⊎ ((x : Index) × (decoded 2 f ≡ ok x) × Past t x))
   get_refused t path p =
       by_reply (decoded 2 f) (λ x g.
-      let h = only_25 Crate x s t path k (sym (p ∙ through_file crate_kind f s (t ∷ path) x g)) in
+      let h = only_25 Crate x s t path (refusal_number k) (sym (p ∙ through_file crate_kind f s (t ∷ path) x g)) in
       (h.0, inr (x, g, h.1)))
       (λ j g.
-      let same : k ≡ 25 = cc (p ∙ no_form crate_kind f s (t ∷ path) j g) in
+      let same : refusal_number k ≡ 25 = cc (p ∙ no_form crate_kind f s (t ∷ path) j g) in
       (same, inl (no_file 2 f j g).1))

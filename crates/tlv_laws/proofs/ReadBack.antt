@@ -14,6 +14,9 @@ use Rattle.basis.specs.Over.{over_at}
 use Rattle.basis.specs.Number.{be}
 use Rattle.basis.proofs.Reply.{All, all_is, all_cond}
 use Rattle.basis.proofs.Truth.{on_cond}
+use Rattle.std.specs.Prelude.{Result}
+use Rattle.basis.specs.Refusal.{as_reply}
+use Rattle.basis.specs.declared.refusal.Refusal.{Refusal}
 use Rattle.tlv.specs.Padding.{zeros, padding}
 use Rattle.tlv.specs.Tag.{Tag, in_range, tag_size, crate_tag_size, standard_tag_size, long_tag, tag_of, tag_alone}
 use Rattle.tlv.specs.Len.{len_to82, len_of}
@@ -25,8 +28,7 @@ use Rattle.tlv.proofs.Tags.{by_tag, alone_read}
 use Rattle.tlv.proofs.Lengths.{len_in_both_readings}
 use Rattle.tlv.proofs.Within.{tag_inside, next_after}
 use Rattle.tlv.proofs.Walk.{seek_here, seek_next}
-use Rattle.tlv_write.specs.Written.{tag_bytes, len_bytes, object_bytes, put_of, as_reply, PutDataObjectIs}
-use Rattle.tlv_write.specs.declared.PutDataObject.{PutDataObject}
+use Rattle.tlv_write.specs.Written.{tag_bytes, len_bytes, object_bytes, put_of, PutDataObjectIs}
 use Rattle.tlv_laws.specs.ReadBack.{written, object_for, ReadsBack}
 use Rattle.tlv_laws.specs.Padding.{zero_bytes, moved_lookup}
 use Rattle.tlv_laws.proofs.FrontOfBytes.{tag_front, padding_front}
@@ -244,7 +246,7 @@ fitted at m t v =
 
 -- the object in the buffer that the writer leaves is read back from the place where it was written
 pub put_read : (r : Reading) (s : List ℕ) → ((i : ℕ) → get_or s i 0 < 256) → (t : Tag) → tag_alone r s ≡ ok t
-    → (v buffer after : List ℕ) (at n : ℕ) (x : PutDataObject) → PutDataObjectIs (be 3 t.number) v buffer at x after → as_reply x ≡ ok n
+    → (v buffer after : List ℕ) (at n : ℕ) (x : Result ℕ Refusal) → PutDataObjectIs (be 3 t.number) v buffer at x after → as_reply x ≡ ok n
     → (drop at after ≡ written t.number v ++ drop (at + n) buffer) × ReadsBack r t.number v (drop (at + n) buffer)
 unfolding over_at
 put_read r s bytes t e v buffer after at n x over_at k =

@@ -11,12 +11,13 @@ use Rattle.basis.specs.Number.{be}
 use Rattle.basis.specs.Reply.{ok}
 use Rattle.basis.specs.Over.{over_at}
 use Rattle.tlv_write.specs.Written.{tag_bytes, len_bytes, object_bytes, put_of, PutDataObjectIs}
-use Rattle.tlv_write.specs.declared.PutDataObject.TheVariants.{Written, Refused}
+use Rattle.std.specs.Prelude.{Ok, Err}
+use Rattle.basis.specs.declared.refusal.Refusal.TheVariants.{DoesNotFit, ValueTooLong}
 use Rattle.tlv_write.proofs.Shown.{tag_one, tag_two, tag_three}
 
 module _ (t v b : List ℕ) (at : ℕ) where
   -- a value above 65,535 bytes: 19 (rule 1.19)
-  pub too_long : 65535 < length v → PutDataObjectIs t v b at (Refused 19) b
+  pub too_long : 65535 < length v → PutDataObjectIs t v b at (Err ValueTooLong) b
   unfolding put_of
   too_long h = let n = lt-ltb 65535 (length v) h in record { reply = rw n; buffer = rw n }
 
@@ -27,7 +28,7 @@ module _ (t v b : List ℕ) (at : ℕ) where
     unfolding object_bytes
     size = simp length-append (omega (arith, tag, len))
 
-    pub no_room : length b < at + (p + q + length v) → PutDataObjectIs t v b at (Refused 16) b
+    pub no_room : length b < at + (p + q + length v) → PutDataObjectIs t v b at (Err DoesNotFit) b
     unfolding put_of
     no_room g =
         let n = le-ltb 65535 (length v) h in
@@ -35,7 +36,7 @@ module _ (t v b : List ℕ) (at : ℕ) where
         record { reply = rw (n, size, m); buffer = rw (n, size, m) }
 
     pub written : (after : List ℕ) → at + (p + q + length v) ≤ length b → after ≡ over_at at (object_bytes t v) b
-        → PutDataObjectIs t v b at (Written (p + q + length v)) after
+        → PutDataObjectIs t v b at (Ok (p + q + length v)) after
     unfolding put_of
     written after g e =
         let n = le-ltb 65535 (length v) h in

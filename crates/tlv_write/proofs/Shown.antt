@@ -4,8 +4,10 @@ use mathlib.Core.Path.{◌≡◌, refl, ap, ◌∙◌}
 use mathlib.Core.List.{List, [], ◌∷◌}
 use native.Mathlib.Omega.{arith}
 use borrow.Author.Tests.{le-leb, lt-leb}
-use lib.ListN.{length, get_or}
+use lib.ListN.{length, get_or, set, length-set}
 use Rattle.basis.specs.Number.{be}
+use Rattle.basis.specs.Over.{over}
+use Rattle.basis.proofs.Over.{stored}
 use Rattle.tlv_write.specs.Written.{tag_bytes, len_bytes}
 
 -- a list of three bytes, byte by byte
@@ -54,3 +56,18 @@ module _ (n : ℕ) (h : 0x7F < n) where
   unfolding len_bytes be
   len_three g l =
       let e : n / 256 % 256 ≡ n / 256 = omega arith in rw (lt-leb _ _ h, lt-leb _ _ g, e)
+
+-- bytes that are written one by one over the front of a part
+module _ (l : List ℕ) where
+  pub one_written : (a : ℕ) → 1 ≤ length l → set l 0 a ≡ over (a ∷ []) l
+  one_written a h = stored (a ∷ []) l h
+
+  pub two_written : (a b : ℕ) → 2 ≤ length l → set (set l 0 a) 1 b ≡ over (a ∷ b ∷ []) l
+  two_written a b h = stored (a ∷ b ∷ []) l h
+
+  pub three_written : (a b c : ℕ) → 3 ≤ length l → set (set (set l 0 a) 1 b) 2 c ≡ over (a ∷ b ∷ c ∷ []) l
+  three_written a b c h = stored (a ∷ b ∷ c ∷ []) l h
+
+pub ruleset tag_written = (tag_one, tag_two, tag_three, one_written, two_written, three_written, length-set)
+
+pub ruleset len_written = (len_one, len_two, len_three, one_written, two_written, three_written, length-set)

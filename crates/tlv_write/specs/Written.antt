@@ -1,10 +1,10 @@
 -- Objects written (rules 7.1 to 7.5, 1.16 and 1.19). ISO/IEC 7816-4 5.2.2.
-use Rattle.std.specs.Prelude.{ℕ, zero, suc, ◌+◌, ◌≡◌, cond, List, [], ◌∷◌, ◌++◌, ltb, leb, length}
+use Rattle.std.specs.Prelude.{ℕ, zero, suc, ◌+◌, ◌≡◌, Result, cond, List, [], ◌∷◌, ◌++◌, ltb, leb, length}
 use Rattle.basis.specs.Reply.{Reply, ok, refused}
 use Rattle.basis.specs.Over.{over_at}
 use Rattle.basis.specs.Number.{be}
-use Rattle.tlv_write.specs.declared.PutDataObject.{PutDataObject}
-use Rattle.tlv_write.specs.declared.PutDataObject.TheVariants as put_data_object
+use Rattle.basis.specs.Refusal.{as_reply}
+use Rattle.basis.specs.declared.refusal.Refusal.{Refusal}
 
 -- the bytes of a tag: zero bytes in front are dropped, the last byte stays (rule 7.1); whatever the bytes are (rule
 -- 7.5)
@@ -36,12 +36,7 @@ abbrev pub buffer_after : Reply ℕ → ℕ → List ℕ → List ℕ → List �
 buffer_after (ok n) at t v buffer = over_at at (object_bytes t v) buffer
 buffer_after (refused k) at t v buffer = buffer
 
--- an answer of the code as a reply
-abbrev pub as_reply : PutDataObject → Reply ℕ
-as_reply (put_data_object.Written n) = ok n
-as_reply (put_data_object.Refused k) = refused k
-
 -- the promise of `put_data_object`
-pub record PutDataObjectIs (t v b : List ℕ) (at : ℕ) (x : PutDataObject) (after : List ℕ) : Type 0 where
+pub record PutDataObjectIs (t v b : List ℕ) (at : ℕ) (x : Result ℕ Refusal) (after : List ℕ) : Type 0 where
   pub reply : as_reply x ≡ put_of at (length b) t v
   pub buffer : after ≡ buffer_after (put_of at (length b) t v) at t v b

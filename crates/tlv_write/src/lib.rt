@@ -6,81 +6,78 @@ ghost use Rattle.std.specs.Prelude.{◌≡◌, ◌+◌, ◌≤◌, length};
 ghost use Rattle.basis.specs.Over.{over, over_at};
 ghost use Rattle.tlv_write.specs.Written.{tag_bytes, len_bytes, object_bytes, PutDataObjectIs};
 
-// How many bytes were written; refused if the value is above 65,535 bytes (19) or the object does not fit from the
-// place (16).
-#[derive(Clone, Copy)]
-pub enum PutDataObject {
-    Written(usize),
-    Refused(u8),
-}
+use basis::Refusal;
 
 // How many bytes a tag takes without the zero bytes in front; the last byte stays (rule 7.1).
+#[tactic(auto, using(crate::proofs::Shown::tag_one, crate::proofs::Shown::tag_two, crate::proofs::Shown::tag_three))]
 fn tag_size(tag: [u8; 3]) -> usize
     ensures { (result ≡ length (tag_bytes tag)) × (result ≤ 3) }
 {
-    if tag[0] != 0 {
-        return 3;
+    match tag {
+        [0, 0, _] => 1,
+        [0, _, _] => 2,
+        _ => 3,
     }
-    if tag[1] != 0 {
-        return 2;
-    }
-    1
 }
 
 // How many bytes a length takes in the shortest form (rule 7.2).
+#[tactic(auto, using(crate::proofs::Shown::len_one, crate::proofs::Shown::len_two, crate::proofs::Shown::len_three))]
 fn len_size(len: usize) -> usize
     requires { len ≤ 65535 }
     ensures { (result ≡ length (len_bytes len)) × (result ≤ 3) }
 {
-    if len <= 0x7F {
-        return 1;
+    match len {
+        0x00..=0x7F => 1,
+        0x80..=0xFF => 2,
+        _ => 3,
     }
-    if len <= 0xFF {
-        return 2;
-    }
-    3
 }
 
 // Writes a tag without the zero bytes in front over the front of a part; the last byte stays (rule 7.1). Any three
 // bytes are taken, and none is changed (rule 7.5).
+// Stays: the bytes are stored one by one; `copy_from_slice` of one to three bytes would call memmove.
+#[tactic(auto, using(crate::proofs::Shown::tag_written))]
 fn put_tag(tag: [u8; 3], part: &mut [u8])
     requires { length (tag_bytes tag) ≤ length part.old }
     ensures { part.new ≡ over (tag_bytes tag) part.old }
 {
-    let b1 = tag[0];
-    let b2 = tag[1];
-    let b3 = tag[2];
-    if b1 != 0 {
-        part[0] = b1;
-        part[1] = b2;
-        part[2] = b3;
-        return;
+    match tag {
+        [0, 0, b3] => {
+            part[0] = b3;
+        }
+        [0, b2, b3] => {
+            part[0] = b2;
+            part[1] = b3;
+        }
+        [b1, b2, b3] => {
+            part[0] = b1;
+            part[1] = b2;
+            part[2] = b3;
+        }
     }
-    if b2 != 0 {
-        part[0] = b2;
-        part[1] = b3;
-        return;
-    }
-    part[0] = b3;
 }
 
 // Writes a length in the shortest form over the front of a part (rule 7.2).
+#[tactic(auto, using(crate::proofs::Shown::len_written))]
 fn put_len(n: usize, part: &mut [u8])
     requires { (n ≤ 65535) × (length (len_bytes n) ≤ length part.old) }
     ensures { part.new ≡ over (len_bytes n) part.old }
 {
-    if n <= 0x7F {
-        part[0] = n as u8;
-        return;
+    match n {
+        0x00..=0x7F => {
+            part[0] = n as u8;
+        }
+        0x80..=0xFF => {
+            part[0] = 0x81;
+            part[1] = n as u8;
+        }
+        _ => {
+            let [high, low] = (n as u16).to_be_bytes();
+            part[0] = 0x82;
+            part[1] = high;
+            part[2] = low;
+        }
     }
-    if n <= 0xFF {
-        part[0] = 0x81;
-        part[1] = n as u8;
-        return;
-    }
-    part[0] = 0x82;
-    part[1] = (n / 256) as u8;
-    part[2] = (n % 256) as u8;
 }
 
 // Writes a value over the front of a part.
@@ -105,21 +102,25 @@ fn write(tag: [u8; 3], value: &[u8], buffer: &mut [u8], at: usize)
     put_value(value, &mut buffer[at_value..]);
 }
 
-// Writes an object into a buffer from a place (rule 7.3). Bytes before it and after it stay. A refusal changes nothing.
-pub fn put_data_object(tag: [u8; 3], value: &[u8], buffer: &mut [u8], at: usize) -> PutDataObject
+// Writes an object into a buffer from a place (rule 7.3), and returns how many bytes were written. Bytes before it and
+// after it stay. A refusal changes nothing: 19 if the value is above 65,535 bytes, 16 if the object does not fit.
+#[tactic(auto, using(crate::proofs::Objects::too_long, crate::proofs::Objects::no_room, crate::proofs::Objects::written))]
+pub fn put_data_object(
+    tag: [u8; 3],
+    value: &[u8],
+    buffer: &mut [u8],
+    at: usize,
+) -> Result<usize, Refusal>
     ensures { PutDataObjectIs tag value.now buffer.old at result buffer.new }
 {
     let n = value.len();
-    if 65535 < n {
-        return PutDataObject::Refused(19);
+    if n > 65535 {
+        return Err(Refusal::ValueTooLong);
     }
     let size = tag_size(tag) + len_size(n) + n;
-    if buffer.len() < at {
-        return PutDataObject::Refused(16);
-    }
-    if buffer.len() - at < size {
-        return PutDataObject::Refused(16);
+    if buffer.len() < at || buffer.len() - at < size {
+        return Err(Refusal::DoesNotFit);
     }
     write(tag, value, buffer, at);
-    PutDataObject::Written(size)
+    Ok(size)
 }

@@ -1,166 +1,93 @@
 // Lines with records in chunks: the replies to them, and the state after them (rules 18.1 to 18.7).
-use crate::{report, text};
+use crate::report::{Hex, Shown};
+use crate::text;
+use crate::text::Parts;
+use std::fmt;
+use std::fmt::Write;
+use tlv::Stop;
 use tlv_chunks::{ChunkWalk, Header, TakeChunk};
 
-// A walk, and the place up to which what was printed is expected.
-#[derive(Clone, Copy)]
-struct Shown {
-    walk: ChunkWalk,
-    at: usize,
-}
-
-// Prints a tag in hexadecimal digits.
-fn show_tag(label: &[u8], tag: u32, expected: &[u8], at: usize) -> usize {
-    let at = report::word(expected, at, label);
-    let mut digits = [0u8; 16];
-    let k = io::hex(tag as u64, 2, &mut digits);
-    report::word(expected, at, &digits[..k])
-}
-
-// Prints a tag and a length.
-fn show_head(tag: u32, len: u16, expected: &[u8], at: usize) -> usize {
-    let at = show_tag(b"head ", tag, expected, at);
-    report::number(expected, at, b" ", len as usize)
-}
-
 // Prints what is replied, with a comma after it; nothing if more bytes are needed.
-fn show_answer(answer: TakeChunk, expected: &[u8], at: usize) -> usize {
+fn show_answer(shown: &mut Shown<'_>, answer: Result<TakeChunk, Stop>) -> fmt::Result {
     match answer {
-        TakeChunk::NeedMore => at,
-        TakeChunk::Head(tag, len) => {
-            let at = show_head(tag, len, expected, at);
-            report::word(expected, at, b", ")
-        }
-        TakeChunk::Empty(tag) => {
-            let at = show_head(tag, 0, expected, at);
-            report::word(expected, at, b", end, ")
-        }
-        TakeChunk::ValueEnd => report::word(expected, at, b"end, "),
-        TakeChunk::End => report::word(expected, at, b"refusal 11, "),
-        TakeChunk::Unreadable => report::word(expected, at, b"refusal 12, "),
+        Ok(TakeChunk::NeedMore) => Ok(()),
+        Ok(TakeChunk::Head(tag, len)) => write!(shown, "head {tag:02x} {len}, "),
+        Ok(TakeChunk::Empty(tag)) => write!(shown, "head {tag:02x} 0, end, "),
+        Ok(TakeChunk::ValueEnd) => write!(shown, "end, "),
+        Err(stop) => write!(shown, "refusal {}, ", stop.number()),
     }
-}
-
-// Whether nothing of a chunk is left to be handed in after this answer.
-fn used_up(answer: TakeChunk) -> bool {
-    match answer {
-        TakeChunk::NeedMore => true,
-        TakeChunk::Head(_, _) => false,
-        TakeChunk::Empty(_) => false,
-        TakeChunk::ValueEnd => false,
-        TakeChunk::End => true,
-        TakeChunk::Unreadable => true,
-    }
-}
-
-// The place after so many bytes more, but not past the end.
-fn place_after(from: usize, taken: usize, end: usize) -> usize {
-    if from <= end {
-        if taken <= end - from {
-            return from + taken;
-        }
-    }
-    end
 }
 
 // Hands in a chunk, and its rest after each answer, until it is used up. That takes at most one call more than it has
 // bytes.
-fn show_chunk(shown: Shown, chunk: &[u8], expected: &[u8]) -> Shown {
-    let mut walk = shown.walk;
-    let mut at = shown.at;
-    let mut from = 0;
-    let mut calls = 0;
-    while calls <= chunk.len() {
-        let taken = walk.take(text::part(chunk, from, chunk.len()));
+fn show_chunk(
+    shown: &mut Shown<'_>,
+    start: ChunkWalk,
+    chunk: &[u8],
+) -> Result<ChunkWalk, fmt::Error> {
+    let mut walk = start;
+    let mut rest = chunk;
+    for _ in 0..=chunk.len() {
+        let taken = walk.take(rest);
         walk = taken.walk;
-        let answer = taken.answer;
-        at = show_answer(answer, expected, at);
-        if used_up(answer) {
-            return Shown { walk, at };
+        show_answer(shown, taken.answer)?;
+        if matches!(taken.answer, Ok(TakeChunk::NeedMore) | Err(_)) {
+            return Ok(walk);
         }
-        from = place_after(from, taken.taken, chunk.len());
-        calls += 1;
+        rest = rest.get(taken.taken..).unwrap_or(&[]);
     }
-    Shown { walk, at }
+    Ok(walk)
 }
 
 // Hands in the chunks of a line, with commas between them.
-fn show_chunks(chunks: &[u8], expected: &[u8]) -> Shown {
-    let mut shown = Shown {
-        walk: ChunkWalk::new(),
-        at: 0,
-    };
-    let mut from = 0;
-    while from < chunks.len() {
-        let end = text::find(chunks, from, b',');
+fn show_chunks(shown: &mut Shown<'_>, chunks: &[u8]) -> Result<ChunkWalk, fmt::Error> {
+    let mut walk = ChunkWalk::new();
+    for chunk in Parts::new(chunks, b',') {
         let mut space = [0u8; 600];
-        let n = text::hex(&chunks[from..end], &mut space);
-        shown = show_chunk(shown, text::part(&space, 0, n), expected);
-        from = end + 2;
+        walk = show_chunk(shown, walk, text::bytes(chunk, &mut space))?;
     }
-    shown
-}
-
-// Prints the number at closing.
-fn show_closing(answer: TakeChunk, expected: &[u8], at: usize) -> usize {
-    match answer {
-        TakeChunk::End => report::word(expected, at, b"closed 11"),
-        TakeChunk::Unreadable => report::word(expected, at, b"closed 12"),
-        _ => at,
-    }
+    Ok(walk)
 }
 
 // A line: divided; name; chunks; expected.
-pub(crate) fn divided(line: &[u8]) {
-    let expected = text::field(line, 3);
-    report::expected(text::field(line, 1), b": expected ", expected);
-    let shown = show_chunks(text::field(line, 2), expected);
-    let walk = shown.walk;
-    let closed = walk.close();
-    let answer = closed.answer;
-    report::verdict(expected, show_closing(answer, expected, shown.at));
+pub(crate) fn divided(line: &[u8]) -> fmt::Result {
+    let mut shown = Shown::start(text::field(line, 1), ": expected ", text::field(line, 3));
+    let walk = show_chunks(&mut shown, text::field(line, 2))?;
+    if let Err(stop) = walk.close().answer {
+        write!(shown, "closed {}", stop.number())?;
+    }
+    shown.verdict()
 }
 
 // Prints the bytes that were read of a header.
-fn show_header(header: Header, expected: &[u8], at: usize) -> usize {
+fn show_header(shown: &mut Shown<'_>, header: Header) -> fmt::Result {
     match header {
-        Header::Tag1(b1) => report::hex(expected, at, &[b1]),
-        Header::Tag2(b1, b2) => report::hex(expected, at, &[b1, b2]),
-        Header::Tag(tag) => show_tag(b"", tag, expected, at),
-        Header::Length81(tag) => {
-            let at = show_tag(b"", tag, expected, at);
-            report::hex(expected, at, &[0x81])
-        }
-        Header::Length82(tag) => {
-            let at = show_tag(b"", tag, expected, at);
-            report::hex(expected, at, &[0x82])
-        }
-        Header::Length82High(tag, high) => {
-            let at = show_tag(b"", tag, expected, at);
-            report::hex(expected, at, &[0x82, high])
-        }
+        Header::Tag1(b1) => write!(shown, "{}", Hex(&[b1])),
+        Header::Tag2(b1, b2) => write!(shown, "{}", Hex(&[b1, b2])),
+        Header::Tag(tag) => write!(shown, "{tag:02x}"),
+        Header::Length81(tag) => write!(shown, "{tag:02x}81"),
+        Header::Length82(tag) => write!(shown, "{tag:02x}82"),
+        Header::Length82High(tag, high) => write!(shown, "{tag:02x}82{high:02x}"),
     }
 }
 
 // Prints a state.
-fn show_state(walk: ChunkWalk, expected: &[u8], at: usize) -> usize {
+fn show_state(shown: &mut Shown<'_>, walk: ChunkWalk) -> fmt::Result {
     match walk {
-        ChunkWalk::Boundary => report::word(expected, at, b"boundary"),
+        ChunkWalk::Boundary => write!(shown, "boundary"),
         ChunkWalk::Header(header) => {
-            let at = report::word(expected, at, b"header ");
-            show_header(header, expected, at)
+            write!(shown, "header ")?;
+            show_header(shown, header)
         }
-        ChunkWalk::Value(more) => report::number(expected, at, b"missing ", more as usize + 1),
-        ChunkWalk::End => report::word(expected, at, b"stopped 11"),
-        ChunkWalk::Unreadable => report::word(expected, at, b"stopped 12"),
+        ChunkWalk::Value(more) => write!(shown, "missing {}", u32::from(more) + 1),
+        ChunkWalk::Stopped(stop) => write!(shown, "stopped {}", stop.number()),
     }
 }
 
 // A line: kept; name; chunks; expected.
-pub(crate) fn kept(line: &[u8]) {
-    let expected = text::field(line, 3);
-    report::expected(text::field(line, 1), b": expected ", expected);
-    let shown = show_chunks(text::field(line, 2), expected);
-    let walk = shown.walk;
-    report::verdict(expected, show_state(walk, expected, shown.at));
+pub(crate) fn kept(line: &[u8]) -> fmt::Result {
+    let mut shown = Shown::start(text::field(line, 1), ": expected ", text::field(line, 3));
+    let walk = show_chunks(&mut shown, text::field(line, 2))?;
+    show_state(&mut shown, walk)?;
+    shown.verdict()
 }

@@ -1,119 +1,91 @@
 // Lines with indexes: the index of a record, the form of a file, and lookups through either (rules 17.1 to 17.10).
-use crate::{records, report, text};
-use tlv_index::{BuildIndex, CheckIndex, GetIndexed, build_index, check_index, get_indexed};
+use crate::records::show_lookup;
+use crate::report::{Hex, Shown};
+use crate::text;
+use std::fmt;
+use std::fmt::Write;
+use tlv_index::{build_index, check_index, get_indexed};
 
 // Prints how many entries a file has.
-fn show_form(file: &[u8], expected: &[u8]) -> usize {
+fn show_form(shown: &mut Shown<'_>, file: &[u8]) -> fmt::Result {
     match check_index(file) {
-        CheckIndex::Refused(k) => report::number(expected, 0, b"refusal ", k as usize),
-        CheckIndex::Entries(n) => report::number(expected, 0, b"entries ", n),
+        Err(refusal) => write!(shown, "refusal {}", refusal.number()),
+        Ok(n) => write!(shown, "entries {n}"),
     }
 }
 
-// Prints the bytes of a file, or how many entries it has if they are more than 100.
-fn show_file(file: &[u8], expected: &[u8]) -> usize {
-    if file.len() <= 100 {
-        return report::hex(expected, 0, file);
-    }
-    show_form(file, expected)
-}
-
-// Prints the index of a record, built into the first bytes of a buffer, as many as `len`.
-fn show_index(record: &[u8], buffer: &mut [u8], len: u32, expected: &[u8]) -> usize {
-    let end = text::up_to(buffer.len(), len);
-    match build_index(record, &mut buffer[0..end], 0) {
-        BuildIndex::Refused(k) => report::number(expected, 0, b"refusal ", k as usize),
-        BuildIndex::Written(n) => show_file(text::part(buffer, 0, n), expected),
+// Prints the index of a record, built into a buffer: the bytes of its file, or how many entries it has if they are more
+// than 100.
+fn show_index(shown: &mut Shown<'_>, record: &[u8], buffer: &mut [u8]) -> fmt::Result {
+    match build_index(record, buffer, 0) {
+        Err(refusal) => write!(shown, "refusal {}", refusal.number()),
+        Ok(n) => {
+            let file = buffer.get(..n).unwrap_or(&[]);
+            if file.len() <= 100 {
+                return write!(shown, "{}", Hex(file));
+            }
+            show_form(shown, file)
+        }
     }
 }
 
 // A line: index; name; record; length of the buffer; expected.
-pub(crate) fn index(line: &[u8]) {
-    let expected = text::field(line, 4);
+pub(crate) fn index(line: &[u8]) -> fmt::Result {
     let mut space = io::large_buffer();
-    let n = text::long_hex(text::field(line, 2), &mut space);
-    let record = text::part(&space, 0, n);
-    let mut numbers = [0u32; 8];
-    text::numbers(text::field(line, 3), true, &mut numbers);
+    let record = text::long_bytes(text::field(line, 2), &mut space);
     let mut buffer = [0u8; 2000];
-    report::expected(text::field(line, 1), b": expected ", expected);
-    let at = show_index(record, &mut buffer, numbers[0], expected);
-    report::verdict(expected, at);
+    let [len] = text::numbers::<1>(text::field(line, 3));
+    let len = (len as usize).min(2000);
+    let mut shown = Shown::start(text::field(line, 1), ": expected ", text::field(line, 4));
+    show_index(&mut shown, record, &mut buffer[..len])?;
+    shown.verdict()
 }
 
 // A line: file; name; file; expected.
-pub(crate) fn file(line: &[u8]) {
-    let expected = text::field(line, 3);
+pub(crate) fn file(line: &[u8]) -> fmt::Result {
     let mut space = [0u8; 2000];
-    let n = text::long_hex(text::field(line, 2), &mut space);
-    report::expected(text::field(line, 1), b": expected ", expected);
-    report::verdict(expected, show_form(text::part(&space, 0, n), expected));
+    let file = text::long_bytes(text::field(line, 2), &mut space);
+    let mut shown = Shown::start(text::field(line, 1), ": expected ", text::field(line, 3));
+    show_form(&mut shown, file)?;
+    shown.verdict()
 }
 
 // The value at a place of a record; no bytes if it lies outside.
-fn value<'a>(record: &'a [u8], place: usize, len: usize) -> &'a [u8] {
-    if place <= record.len() {
-        let after = &record[place..];
-        return text::part(after, 0, len);
-    }
-    &record[..0]
+fn value<'a>(record: &'a [u8], at: usize, len: usize) -> &'a [u8] {
+    record.get(at..).unwrap_or(&[]).get(..len).unwrap_or(&[])
 }
 
-// Prints what a lookup through a file finds.
-fn show_lookup(file: &[u8], record: &[u8], path: &[u32], expected: &[u8]) -> usize {
-    match get_indexed(file, record, path) {
-        GetIndexed::Refused(k) => report::number(expected, 0, b"refusal ", k as usize),
-        GetIndexed::End(place, matched) => {
-            records::show_refusal(b"refusal 11 at ", place, matched, expected)
-        }
-        GetIndexed::Unreadable(place, matched) => {
-            records::show_refusal(b"refusal 12 at ", place, matched, expected)
-        }
-        GetIndexed::Value(place, len, matched) => {
-            let bytes = value(record, place, len);
-            records::show_value(place, len, matched, bytes, expected)
-        }
-    }
-}
-
-// Looks up the path of a line in its record, through a file.
-fn look_up_line(line: &[u8], file: &[u8], expected: &[u8]) -> usize {
+// Looks up the path of a line in its record, through a file, and prints what is found.
+fn look_up(shown: &mut Shown<'_>, line: &[u8], file: &[u8]) -> fmt::Result {
     let mut space = io::large_buffer();
-    let n = text::long_hex(text::field(line, 3), &mut space);
-    let tag_field = text::field(line, 4);
+    let record = text::long_bytes(text::field(line, 3), &mut space);
     let mut tags = [0u32; 8];
-    let last = text::numbers(tag_field, false, &mut tags);
-    let path = records::path(&tags, last, tag_field);
-    show_lookup(file, text::part(&space, 0, n), path, expected)
+    let path = text::path(text::field(line, 4), &mut tags);
+    match get_indexed(file, record, path) {
+        Err(refusal) => write!(shown, "refusal {}", refusal.number()),
+        Ok(Err(halt)) => show_lookup(shown, Err(halt), &[]),
+        Ok(Ok(found)) => show_lookup(shown, Ok(found), value(record, found.at, found.len)),
+    }
 }
 
 // A line: built; name; record that the index is built from; record; path; expected.
-pub(crate) fn built(line: &[u8]) {
-    let expected = text::field(line, 5);
+pub(crate) fn built(line: &[u8]) -> fmt::Result {
     let mut space = io::large_buffer();
-    let n = text::long_hex(text::field(line, 2), &mut space);
+    let record = text::long_bytes(text::field(line, 2), &mut space);
     let mut buffer = [0u8; 2000];
-    report::expected(text::field(line, 1), b": expected ", expected);
-    match build_index(text::part(&space, 0, n), &mut buffer, 0) {
-        BuildIndex::Refused(k) => {
-            report::verdict(
-                expected,
-                report::number(expected, 0, b"refusal ", k as usize),
-            );
-        }
-        BuildIndex::Written(size) => {
-            let file = text::part(&buffer, 0, size);
-            report::verdict(expected, look_up_line(line, file, expected));
-        }
+    let mut shown = Shown::start(text::field(line, 1), ": expected ", text::field(line, 5));
+    match build_index(record, &mut buffer, 0) {
+        Err(refusal) => write!(shown, "refusal {}", refusal.number())?,
+        Ok(n) => look_up(&mut shown, line, buffer.get(..n).unwrap_or(&[]))?,
     }
+    shown.verdict()
 }
 
 // A line: given; name; file; record; path; expected.
-pub(crate) fn given(line: &[u8]) {
-    let expected = text::field(line, 5);
+pub(crate) fn given(line: &[u8]) -> fmt::Result {
     let mut space = [0u8; 2000];
-    let n = text::long_hex(text::field(line, 2), &mut space);
-    report::expected(text::field(line, 1), b": expected ", expected);
-    let file = text::part(&space, 0, n);
-    report::verdict(expected, look_up_line(line, file, expected));
+    let file = text::long_bytes(text::field(line, 2), &mut space);
+    let mut shown = Shown::start(text::field(line, 1), ": expected ", text::field(line, 5));
+    look_up(&mut shown, line, file)?;
+    shown.verdict()
 }

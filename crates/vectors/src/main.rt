@@ -22,48 +22,48 @@ mod responses;
 mod text;
 mod written;
 
-// Runs a line, by its first letter. A line that is empty or starts with # is no case.
-fn line(line: &[u8]) {
-    match text::first(line) {
-        0 | b'#' => {}
-        b'c' => commands::run(line),
-        b'r' => records::run(line),
-        b'o' => objects::run(line),
-        b't' => alone::run(line, true),
-        b'l' => alone::run(line, false),
-        b'p' => cuts::run(line, b": expected ", b"refusal "),
-        b'u' => cuts::run(line, b": expected refusal ", b""),
-        b'm' => written::command(line),
-        b'v' => written::object(line),
-        b's' => responses::split(line),
-        b'w' => responses::status(line),
-        b'e' => exchanges::run(line),
-        b'i' => indexes::index(line),
-        b'f' => indexes::file(line),
-        b'b' => indexes::built(line),
-        b'g' => indexes::given(line),
-        b'd' => chunks::divided(line),
-        b'k' => chunks::kept(line),
-        b'n' => balances::note(line),
-        b'q' => balances::question(line),
-        b'h' => balances::holder(line),
-        b'a' => balances::assembled(line),
-        _ => report::unknown(line),
+use std::fmt;
+
+// Runs a line, by its first letter. A line that is empty, or starts with # or a zero byte, is no case.
+fn run(line: &[u8]) -> fmt::Result {
+    match line.first() {
+        None | Some(0 | b'#') => Ok(()),
+        Some(b'c') => commands::run(line),
+        Some(b'r') => records::run(line),
+        Some(b'o') => objects::run(line),
+        Some(b't') => alone::tag(line),
+        Some(b'l') => alone::length(line),
+        Some(b'p') => cuts::run(line, ": expected ", "refusal "),
+        Some(b'u') => cuts::run(line, ": expected refusal ", ""),
+        Some(b'm') => written::command(line),
+        Some(b'v') => written::object(line),
+        Some(b's') => responses::split(line),
+        Some(b'w') => responses::status(line),
+        Some(b'e') => exchanges::run(line),
+        Some(b'i') => indexes::index(line),
+        Some(b'f') => indexes::file(line),
+        Some(b'b') => indexes::built(line),
+        Some(b'g') => indexes::given(line),
+        Some(b'd') => chunks::divided(line),
+        Some(b'k') => chunks::kept(line),
+        Some(b'n') => balances::note(line),
+        Some(b'q') => balances::question(line),
+        Some(b'h') => balances::holder(line),
+        Some(b'a') => balances::assembled(line),
+        Some(_) => report::unknown(line),
     }
 }
 
 // Runs all lines.
-fn run(file: &[u8]) {
-    let mut at = 0;
-    while at < file.len() {
-        let end = text::find(file, at, b'\n');
-        line(&file[at..end]);
-        at = end + 1;
+fn run_all(file: &[u8]) -> fmt::Result {
+    for line in file.split(|b| *b == b'\n') {
+        run(line)?;
     }
+    Ok(())
 }
 
 fn main() {
     let mut file = io::large_buffer();
     let n = io::read_full(0, &mut file);
-    run(&file[..n]);
+    let _ = run_all(&file[..n]);
 }

@@ -1,65 +1,107 @@
-// The lines that are printed: what is expected and what is found. While what is found is printed, it is compared with
-// what is expected: `at` is the place up to which both are the same, or 65,536 if they differ.
+// The lines that are printed: what is expected and what is found.
+ghost use Rattle.std.specs.Prelude.{◌≤◌};
 
-// Prints the start of a line: a name, a label, and what is expected.
-pub(crate) fn expected(name: &[u8], label: &[u8], expected: &[u8]) {
-    io::write_all(1, name);
-    io::write_all(1, label);
-    io::write_all(1, expected);
-    io::write_all(1, b", found ");
+use crate::text;
+use std::fmt;
+use std::fmt::Write;
+
+// Standard output. A write that fails is passed over.
+#[derive(Drop)]
+pub(crate) struct Stdout;
+
+impl fmt::Write for Stdout {
+    fn write_str(&mut self, s: &str) -> fmt::Result {
+        io::write_all(1, s.as_bytes());
+        Ok(())
+    }
 }
 
-// Prints a word that is found, and returns the place after it in what is expected, or 65,536 if it is not there.
-pub(crate) fn word(expected: &[u8], at: usize, word: &[u8]) -> usize {
-    io::write_all(1, word);
-    let len = word.len();
-    if at < 65536 {
-        if len < 65536 {
-            if check::same(crate::text::part(expected, at, at + len), word) {
-                return at + len;
-            }
+// Bytes, printed in two hexadecimal digits each, up to eight at a time.
+#[derive(Clone, Copy)]
+pub(crate) struct Hex<'a>(pub(crate) &'a [u8]);
+
+impl fmt::Display for Hex<'_> {
+    fn fmt<W: fmt::Write>(&self, f: &mut fmt::Formatter<W>) -> fmt::Result {
+        for bytes in self.0.chunks(8) {
+            let n = bytes.iter().fold(0u64, |n, b| n << 8 | u64::from(*b));
+            let width = 2 * bytes.len();
+            write!(f, "{n:0width$x}")?;
+        }
+        Ok(())
+    }
+}
+
+// What is found on a line. While it is printed, it is compared with what is expected.
+#[derive(Drop)]
+pub(crate) struct Shown<'a> {
+    // What is still expected; none once something else was found.
+    expected: Option<&'a [u8]>,
+}
+
+impl fmt::Write for Shown<'_> {
+    fn write_str(&mut self, s: &str) -> fmt::Result {
+        self.print(s.as_bytes());
+        Ok(())
+    }
+}
+
+impl<'a> Shown<'a> {
+    // Prints the start of a line: a name, a label, and what is expected.
+    pub(crate) fn start(name: &[u8], label: &str, expected: &'a [u8]) -> Shown<'a> {
+        io::write_all(1, name);
+        io::write_all(1, label.as_bytes());
+        io::write_all(1, expected);
+        io::write_all(1, b", found ");
+        Shown {
+            expected: Some(expected),
         }
     }
-    65536
-}
 
-// Prints a label and a number.
-pub(crate) fn number(expected: &[u8], at: usize, label: &[u8], n: usize) -> usize {
-    let at = word(expected, at, label);
-    let mut digits = [0u8; 20];
-    let k = io::decimal(n as u64, &mut digits);
-    word(expected, at, &digits[..k])
-}
-
-// Prints a byte in two hexadecimal digits.
-fn byte(expected: &[u8], at: usize, b: u8) -> usize {
-    let mut digits = [0u8; 16];
-    let k = io::hex(b as u64, 2, &mut digits);
-    word(expected, at, &digits[..k])
-}
-
-// Prints bytes, each in two hexadecimal digits.
-pub(crate) fn hex(expected: &[u8], start: usize, shown: &[u8]) -> usize {
-    let mut at = start;
-    let mut i = 0;
-    while i < shown.len() {
-        at = byte(expected, at, shown[i]);
-        i += 1;
+    // Prints bytes that are found.
+    pub(crate) fn print(&mut self, found: &[u8]) {
+        io::write_all(1, found);
+        self.expected = self
+            .expected
+            .and_then(|expected| expected.strip_prefix(found));
     }
-    at
+
+    // Prints the end of a line: whether what was found is all that was expected.
+    pub(crate) fn verdict(self) -> fmt::Result {
+        match self.expected {
+            Some([]) => writeln!(Stdout, ": ok"),
+            _ => writeln!(Stdout, ": WRONG"),
+        }
+    }
 }
 
-// Prints the end of a line: whether what was found is all that was expected.
-pub(crate) fn verdict(expected: &[u8], at: usize) {
-    if at == expected.len() {
-        io::write_all(1, b": ok\n");
-    } else {
-        io::write_all(1, b": WRONG\n");
-    }
+// Prints the results of a line in both readings. Its field with this number is what is expected; the next one is what is
+// expected in the standard reading, if that is not the same.
+pub(crate) fn in_both_readings<R: Copy, F>(
+    line: &[u8],
+    number: usize,
+    by_crate: R,
+    by_standard: R,
+    show: F,
+) -> fmt::Result
+where
+    F: Fn(&mut Shown<'_>, R) -> fmt::Result,
+    requires number_bound { number ≤ 8 }
+    requires callable { F.IsAlwaysCallable show }
+{
+    let name = text::field(line, 1);
+    let expected = text::field(line, number);
+    let mut shown = Shown::start(name, ", crate: expected ", expected);
+    show(&mut shown, by_crate)?;
+    shown.verdict()?;
+    let other = text::field(line, number + 1);
+    let expected = if other.is_empty() { expected } else { other };
+    let mut shown = Shown::start(name, ", standard: expected ", expected);
+    show(&mut shown, by_standard)?;
+    shown.verdict()
 }
 
 // Prints that a line has no known kind.
-pub(crate) fn unknown(line: &[u8]) {
+pub(crate) fn unknown(line: &[u8]) -> fmt::Result {
     io::write_all(1, line);
-    io::write_all(1, b": WRONG, no such kind\n");
+    writeln!(Stdout, ": WRONG, no such kind")
 }

@@ -1,74 +1,63 @@
 // Lines with responses: one that is split (rule 13.1), and the class and name of a status (rules 13.4 and 13.5).
-use crate::{report, text};
-use response::{Answer, Copied, Status, StatusClass};
-
-// Prints the two bytes of a status.
-pub(crate) fn show_status(status: Status, expected: &[u8], at: usize) -> usize {
-    let bytes = [status.sw1, status.sw2];
-    report::hex(expected, at, &bytes)
-}
+use crate::report::{Hex, Shown};
+use crate::text;
+use response::{Status, StatusClass};
+use std::fmt;
+use std::fmt::Write;
 
 // Prints the data and the status of a response.
-fn show_split(response: &[u8], expected: &[u8]) -> usize {
+fn show_split(shown: &mut Shown<'_>, response: &[u8]) -> fmt::Result {
     match response::split(response) {
-        Answer::Refused(k) => report::number(expected, 0, b"refusal ", k as usize),
-        Answer::Response(parts) => {
-            let at = report::word(expected, 0, b"data ");
-            let at = report::hex(expected, at, response::data(response));
-            let at = report::word(expected, at, b" status ");
-            let status = parts.status;
-            show_status(status, expected, at)
+        Err(refusal) => write!(shown, "refusal {}", refusal.number()),
+        Ok(parts) => {
+            let data = Hex(response::data(response));
+            write!(shown, "data {data} status {:04x}", parts.status.word())
         }
     }
 }
 
-// Prints the class of a status.
-fn show_class(status: Status, expected: &[u8]) -> usize {
-    match status.class() {
-        StatusClass::Normal => report::word(expected, 0, b"normal"),
-        StatusClass::Warning => report::word(expected, 0, b"warning"),
-        StatusClass::ExecutionError => report::word(expected, 0, b"execution error"),
-        StatusClass::CheckingError => report::word(expected, 0, b"checking error"),
-        StatusClass::Unknown => report::word(expected, 0, b"unknown"),
+// The words of a class.
+fn class_words(class: StatusClass) -> &'static str {
+    match class {
+        StatusClass::Normal => "normal",
+        StatusClass::Warning => "warning",
+        StatusClass::ExecutionError => "execution error",
+        StatusClass::CheckingError => "checking error",
+        StatusClass::Unknown => "unknown",
     }
 }
 
-// Prints the name of a status after its class; nothing if it has none.
-fn show_name(status: Status, expected: &[u8], at: usize) -> usize {
+// Prints the class of a status, and its name if it has one.
+fn show_status(shown: &mut Shown<'_>, status: Status) -> fmt::Result {
+    write!(shown, "{}", class_words(status.class()))?;
     let mut letters = [0u8; 32];
     match status.name(&mut letters) {
-        Copied::Refused(k) => report::number(expected, at, b" refusal ", k as usize),
-        Copied::Bytes(n) => {
-            if n == 0 {
-                return at;
-            }
-            let at = report::word(expected, at, b" ");
-            report::word(expected, at, text::part(&letters, 0, n))
+        Err(refusal) => write!(shown, " refusal {}", refusal.number()),
+        Ok(0) => Ok(()),
+        Ok(n) => {
+            write!(shown, " ")?;
+            shown.print(letters.get(..n).unwrap_or(&[]));
+            Ok(())
         }
     }
 }
 
 // A line: split; name; bytes; expected.
-pub(crate) fn split(line: &[u8]) {
-    let name = text::field(line, 1);
-    let expected = text::field(line, 3);
+pub(crate) fn split(line: &[u8]) -> fmt::Result {
     let mut space = [0u8; 600];
-    let n = text::hex(text::field(line, 2), &mut space);
-    report::expected(name, b": expected ", expected);
-    report::verdict(expected, show_split(text::part(&space, 0, n), expected));
+    let response = text::bytes(text::field(line, 2), &mut space);
+    let mut shown = Shown::start(text::field(line, 1), ": expected ", text::field(line, 3));
+    show_split(&mut shown, response)?;
+    shown.verdict()
 }
 
 // A line: word; the bytes of a status; expected.
-pub(crate) fn status(line: &[u8]) {
+pub(crate) fn status(line: &[u8]) -> fmt::Result {
     let name = text::field(line, 1);
-    let expected = text::field(line, 2);
     let mut bytes = [0u8; 2];
-    text::hex(name, &mut bytes);
-    let status = Status {
-        sw1: bytes[0],
-        sw2: bytes[1],
-    };
-    report::expected(name, b": expected ", expected);
-    let at = show_class(status, expected);
-    report::verdict(expected, show_name(status, expected, at));
+    text::read(name, &mut bytes);
+    let [sw1, sw2] = bytes;
+    let mut shown = Shown::start(name, ": expected ", text::field(line, 2));
+    show_status(&mut shown, Status { sw1, sw2 })?;
+    shown.verdict()
 }

@@ -14,6 +14,6 @@ returns-then-input-le-INPUT_MAX c =
     rw (le-leb (length s) 60000 (omega (arith, c.if-input-le-INPUT_MAX.true)))
     (ap (λ (n : ℕ). eqb n (length s)) (c.pass_section.ensures.0 ∙ ap (λ (m : ℕ). m + section_size (drop m s)) c.requires.0))
 
-pub returns : goal.returns
+pub returns-else-input-le-INPUT_MAX : goal.returns-else-input-le-INPUT_MAX
 unfolding well_formed
-returns c = rw (lt-leb (length c.args.input.now) 60000 (omega (arith, c.if-input-le-INPUT_MAX.false)))
+returns-else-input-le-INPUT_MAX c = rw (lt-leb (length c.args.input.now) 60000 (omega (arith, c.if-input-le-INPUT_MAX.false)))

@@ -1,13 +1,9 @@
-use borrow.Author.Rules.{rules}
+use native.Mathlib.Omega.{arith}
 use mathlib.Core.List.{[], ◌∷◌}
 use Rattle.basis.proofs.Over.{stored}
-use Rattle.abi.proofs.SerializedLaws.{write_refused, done}
+use Rattle.abi.proofs.SerializedLaws.{done}
 use Rattle.builder_abi.proofs.write.write.Goals as goal
 
-pub returns-in-Refused : goal.returns-in-Refused
-returns-in-Refused c =
-    write_refused _ _ _ _ _ (search rules) _ _ c.serialize_into.ensures _ c.in-Refused.is
-
-pub returns-in-Bytes : goal.returns-in-Bytes
-returns-in-Bytes c =
-    done _ _ _ _ _ (search rules) _ _ c.serialize_into.ensures _ _ c.in-Bytes.is (stored (_ ∷ []) _ (search rules))
+pub returns-in-Ok : goal.returns-in-Ok
+returns-in-Ok c =
+    done _ _ _ _ _ (omega arith) _ _ c.serialize_into.ensures _ _ c.in-Ok.is (stored (_ ∷ []) _ (omega arith))

@@ -1,38 +1,14 @@
-use mathlib.Core.Path.{◌≡◌, sym, ◌∙◌}
+use borrow.Author.Rules.{rules}
+use borrow.Author.Tests.{tests}
+use mathlib.Core.Path.{◌≡◌}
 use mathlib.Core.Bool.{true, false}
-use lib.ListN.{get_or}
-use Rattle.calibration.specs.Date.{is_decimal, are_packed}
+use Rattle.std.proofs.lemmas.Iterator.{cases_from_all, YieldsList-from_slice}
+use Rattle.calibration.specs.Date.{is_decimal}
+use Rattle.calibration.proofs.Digits.{packed_by}
 use Rattle.calibration.proofs.date.are_packed.Goals as goal
 
-pub returns-then-not-is_decimal : goal.returns-then-not-is_decimal
-unfolding are_packed
-returns-then-not-is_decimal c =
-    let b = c.args.bytes.now in
-    let w : is_decimal (get_or b 0 0) ≡ false = sym c.is_decimal.ensures ∙ c.if-not-is_decimal.true in
-    rw w
-
-pub returns-then-not-is_decimal-2 : goal.returns-then-not-is_decimal-2
-unfolding are_packed
-returns-then-not-is_decimal-2 c =
-    let b = c.args.bytes.now in
-    let w : is_decimal (get_or b 0 0) ≡ true = sym c.is_decimal.ensures ∙ c.if-not-is_decimal.false in
-    let x : is_decimal (get_or b 1 0) ≡ false = sym c.is_decimal-2.ensures ∙ c.if-not-is_decimal-2.true in
-    rw (w, x)
-
-pub returns-then-not-is_decimal-3 : goal.returns-then-not-is_decimal-3
-unfolding are_packed
-returns-then-not-is_decimal-3 c =
-    let b = c.args.bytes.now in
-    let w : is_decimal (get_or b 0 0) ≡ true = sym c.is_decimal.ensures ∙ c.if-not-is_decimal.false in
-    let x : is_decimal (get_or b 1 0) ≡ true = sym c.is_decimal-2.ensures ∙ c.if-not-is_decimal-2.false in
-    let y : is_decimal (get_or b 2 0) ≡ false = sym c.is_decimal-3.ensures ∙ c.if-not-is_decimal-3.true in
-    rw (w, x, y)
-
 pub returns : goal.returns
-unfolding are_packed
 returns c =
-    let b = c.args.bytes.now in
-    let w : is_decimal (get_or b 0 0) ≡ true = sym c.is_decimal.ensures ∙ c.if-not-is_decimal.false in
-    let x : is_decimal (get_or b 1 0) ≡ true = sym c.is_decimal-2.ensures ∙ c.if-not-is_decimal-2.false in
-    let y : is_decimal (get_or b 2 0) ≡ true = sym c.is_decimal-3.ensures ∙ c.if-not-is_decimal-3.false in
-    rw (w, x, y) c.is_decimal-4.ensures
+    packed_by c.args.bytes (search rules) c.all.result
+    (cases_from_all _ _ _ (λ b. is_decimal b ≡ true) (λ b. is_decimal b ≡ false) c.all.ensures.ran (YieldsList-from_slice c.args.bytes c.iter.ensures.rest)
+    (λ x q k. search (rules, tests)) (λ x q k. search (rules, tests)))

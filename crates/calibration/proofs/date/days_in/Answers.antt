@@ -8,13 +8,13 @@ use Rattle.calibration.specs.Date.{is_leap, days_in}
 use Rattle.calibration.proofs.Calendar.{leap_here, february_leap, february, days_30, days_31, other_to_8, other_from_9, no_month_zero}
 use Rattle.calibration.proofs.date.days_in.Goals as goal
 
-pub returns-then-year-eq0 : goal.returns-then-year-eq0
-returns-then-year-eq0 c =
+pub returns-in-2 : goal.returns-in-2
+returns-in-2 c =
     let leap : c.args.year % 4 ≡ 0 → is_leap c.args.year ≡ true = λ h. leap_here c.args.year c.requires.0 c.requires.1 ∙ eq-eqb (c.args.year % 4) 0 h in
     sym (february_leap c.args.year c.args.month c.in-2.is (leap c.if-year-eq0.true))
 
-pub returns-else-year-eq0 : goal.returns-else-year-eq0
-returns-else-year-eq0 c =
+pub returns-in-2-2 : goal.returns-in-2-2
+returns-in-2-2 c =
     let not_leap : (c.args.year % 4 ≡ 0 → ⊥) → is_leap c.args.year ≡ false = λ h. leap_here c.args.year c.requires.0 c.requires.1 ∙ ne_eqb (c.args.year % 4) 0 h in
     sym (february c.args.year c.args.month c.in-2.is (not_leap c.if-year-eq0.false))
 

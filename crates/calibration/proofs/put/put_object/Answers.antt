@@ -1,29 +1,23 @@
 use borrow.Author.Rules.{rules}
-use mathlib.Core.Path.{◌≡◌}
-use mathlib.Core.List.{[], ◌∷◌}
 use native.Mathlib.Omega.{arith}
-use lib.ListN.{length, length-set, get_or}
-use Rattle.basis.proofs.Over.{stored}
+use lib.ListN.{length}
+use mathlib.Core.Path.{◌≡◌, refl, sym, ap, ◌∙◌}
+use mathlib.Core.List.{[], ◌∷◌}
+use Rattle.basis.specs.Over.{over_at}
+use Rattle.basis.proofs.Over.{copied_front, copied_at, over_at_zero, over_at_twice}
 use Rattle.calibration.specs.Profile.{object}
-use Rattle.calibration.proofs.Digits.{four}
 use Rattle.calibration.proofs.put.put_object.Goals as goal
 
 pub returns : goal.returns
 unfolding object
 returns c =
     let v = c.args.value in
+    let part = c.args.part.now in
+    let head = c.args.tag ∷ 4 ∷ [] in
     let size : length v ≡ 4 = search rules in
-    rw (size, four v size)
-    (stored (c.args.tag ∷ 4 ∷ get_or v 0 0 ∷ get_or v 1 0 ∷ get_or v 2 0 ∷ get_or v 3 0 ∷ []) c.args.part.now (omega (arith, c.requires)))
-
-pub bounds-part-1 : goal.bounds-part-1
-bounds-part-1 c = simp length-set (omega (arith, c.requires))
-
-pub bounds-part-2 : goal.bounds-part-2
-bounds-part-2 c = simp length-set (omega (arith, c.requires))
-
-pub bounds-part-3 : goal.bounds-part-3
-bounds-part-3 c = simp length-set (omega (arith, c.requires))
-
-pub bounds-part-4 : goal.bounds-part-4
-bounds-part-4 c = simp length-set (omega (arith, c.requires))
+    let front = copied_front 2 head _ _ c.copy_from_slice.ensures.after refl ∙ sym (over_at_zero head part) in
+    rw size
+    (copied_at 2 4 v _ _ c.copy_from_slice-2.ensures.after (sym size)
+    ∙ ap (over_at 2 v) front
+    ∙ over_at_twice 0 head v part (omega arith)
+    ∙ over_at_zero (c.args.tag ∷ 4 ∷ v) part)

@@ -9,7 +9,7 @@ use Rattle.basis.proofs.Number.{length_be}
 use Rattle.basis.proofs.Over.{lent, next, copied_at, over_at_twice}
 use Rattle.calibration.specs.Date.{date_bytes}
 use Rattle.calibration.specs.Profile.{Fields, fields, object}
-use Rattle.calibration.proofs.Written.{date_size, record_parts, value_known}
+use Rattle.calibration.proofs.Written.{be_bytes, date_size, record_parts, value_known}
 use Rattle.calibration.proofs.put.write.Goals as goal
 
 pub returns : goal.returns
@@ -33,5 +33,5 @@ returns c =
     (simp length-append (omega arith)) (omega (arith, c.requires.2, date_size f))
     (value_known 0xC2 _ _ _ _ c.date_bytes.ensures c.put_object.ensures))
     (simp length-append (omega (arith, date_size f))) (omega (arith, c.requires.2, length_be 4 c.args.capacity))
-    (value_known 0xC3 _ _ _ _ c.capacity_bytes.ensures c.put_object-2.ensures) in
+    (value_known 0xC3 _ _ _ _ (c.to_be_bytes.ensures ∙ be_bytes c.args.capacity) c.put_object-2.ensures) in
     all ∙ sym (ap (λ (b : List ℕ). over_at at b buffer) (record_parts f))

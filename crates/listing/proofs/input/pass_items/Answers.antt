@@ -1,14 +1,18 @@
 use native.Mathlib.Omega.{arith}
 use mathlib.Core.Path.{◌∙◌}
+use Prim.Native.Nat.{◌-◌}
 use lib.ListN.{drop}
 use Rattle.listing.proofs.Sections.{size_next, size_none}
 use Rattle.listing.proofs.input.pass_items.Goals as goal
 
-pub loop-left-preserved : goal.loop-left-preserved
-loop-left-preserved c =
-    let l = c.loop-left in
-    let s = c.args.input.now in
-    (l.invariant.0 ∙ size_next s l.at c.pair_at.result c.pair_at.ensures.0 l.left c.loop-left-test.true, omega arith)
+pub loop-preserved : goal.loop-preserved
+loop-preserved c =
+    let l = c.loop in
+    let a = c.args in
+    (l.invariant.0 ∙ size_next a.input.now l.at c.pair_at.result c.pair_at.ensures.0 (a.count - l.counter) _ (omega arith), omega arith, omega arith)
 
 pub returns : goal.returns
-returns c = omega (arith, size_none (drop c.loop-left.at c.args.input.now) c.loop-left.left c.loop-left-test.false)
+returns c =
+    let l = c.loop in
+    let a = c.args in
+    omega (arith, size_none (drop l.at a.input.now) (a.count - l.counter) (omega arith))

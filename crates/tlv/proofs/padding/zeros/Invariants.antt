@@ -1,12 +1,9 @@
-use Prim.Native.Nat.{◌+◌, ◌-◌, ◌≤◌}
+use Prim.Native.Nat.{◌+◌}
 use mathlib.Core.Path.{◌≡◌}
-use lib.ListN.{length, drop}
+use lib.ListN.{drop}
 use Rattle.tlv.specs.Padding.{zeros}
 use Rattle.tlv.proofs.padding.zeros.Given as goal
 
 -- the invariant: the first i bytes are zero
 abbrev pub invariant-loop-i : goal.invariant-loop-i
-invariant-loop-i l = (zeros l.bytes ≡ l.i + zeros (drop l.i l.bytes)) × (l.i ≤ length l.bytes)
-
-abbrev pub decreases-loop-i : goal.decreases-loop-i
-decreases-loop-i l = length l.bytes - l.i
+invariant-loop-i l = zeros l.bytes ≡ l.i + zeros (drop l.i l.bytes)

@@ -1,25 +1,24 @@
-use borrow.Author.Rules.{rules}
 use native.Mathlib.Omega.{arith}
-use mathlib.Core.Path.{refl, sym, ◌∙◌}
+use mathlib.Core.Path.{◌≡◌, sym, ◌∙◌}
+use lib.ListN.{length}
 use Rattle.tlv_chunks.proofs.Calls.{header_goes_on, header_complete, header_unreadable, header_used_up}
 use Rattle.tlv_chunks.proofs.walk.header_bytes.Goals as goal
 
 pub loop-at-preserved : goal.loop-at-preserved
 loop-at-preserved c =
-    (c.loop-at.invariant.0 ∙ header_goes_on _ _ _ _ c.loop-at-test.true (sym c.next_byte.ensures ∙ c.in-More.is), omega arith)
+    let more = rw c.in-Ok-More.field-0-is at c.in-Ok-More.ensures in
+    c.loop-at.invariant ∙ header_goes_on _ _ _ _ c.loop-at-test.true (sym more)
 
-pub returns-in-Complete : goal.returns-in-Complete
-returns-in-Complete c =
-    rw (c.loop-at.invariant.0 ∙ header_complete _ _ _ _ _ c.loop-at-test.true (sym c.next_byte.ensures ∙ c.in-Complete.is))
-    c.head.ensures
+pub returns-in-Ok-Complete : goal.returns-in-Ok-Complete
+returns-in-Ok-Complete c =
+    let complete = rw c.in-Ok-Complete.field-0-is at c.in-Ok-Complete.ensures in
+    rw (c.loop-at.invariant ∙ header_complete _ _ _ _ _ c.loop-at-test.true (sym complete)) c.head.ensures
 
-pub returns-in-Unreadable : goal.returns-in-Unreadable
-returns-in-Unreadable c =
-    rw (c.loop-at.invariant.0 ∙ header_unreadable _ _ _ c.loop-at-test.true (sym c.next_byte.ensures ∙ c.in-Unreadable.is))
-    c.answered.ensures
+pub returns-in-Err : goal.returns-in-Err
+returns-in-Err c =
+    rw (c.loop-at.invariant ∙ header_unreadable _ _ _ _ c.loop-at-test.true (sym c.in-Err.ensures)) c.stopped.ensures
 
 pub returns : goal.returns
-returns c = rw (c.loop-at.invariant.0 ∙ header_used_up _ _ _ c.loop-at-test.false) c.answered-2.ensures
-
-pub loop-at-init : goal.loop-at-init
-loop-at-init c = (refl, search rules)
+returns c =
+    let at_the_end : c.loop-at.at ≡ length c.args.chunk.now = omega arith in
+    rw (c.loop-at.invariant ∙ header_used_up _ _ _ c.loop-at-test.false, at_the_end) c.answered.ensures

@@ -1,12 +1,7 @@
-use Prim.Native.Nat.{◌-◌, ◌≤◌}
 use mathlib.Core.Path.{◌≡◌}
-use lib.ListN.{length}
 use Rattle.tlv_chunks.specs.Call.{rest_call}
 use Rattle.tlv_chunks.proofs.walk.header_bytes.Given as goal
 
 -- the call is that of the header so far from place `at` on
 abbrev pub invariant-loop-at : goal.invariant-loop-at
-invariant-loop-at l = (rest_call l.initial.header l.chunk l.from ≡ rest_call l.header l.chunk l.at) × (l.at ≤ length l.chunk)
-
-abbrev pub decreases-loop-at : goal.decreases-loop-at
-decreases-loop-at l = length l.chunk - l.at
+invariant-loop-at l = rest_call l.initial.header l.chunk l.from ≡ rest_call l.header l.chunk l.at

@@ -10,10 +10,15 @@ use Rattle.tlv_index.proofs.build.count_objects.Given as goal
 abbrev pub from : List ℕ → ℕ → Walk
 from s a = walk Crate a (drop a s)
 
--- the invariant: n objects were met up to place `at`, and the walk goes on there
-abbrev pub invariant-loop-place : goal.invariant-loop-place
-invariant-loop-place l = (l.at ≤ length l.record) × (l.n ≤ 255) × (length (from l.record 0).items ≡ l.n + length (from l.record l.at).items)
-    × ((from l.record 0).stop ≡ (from l.record l.at).stop)
+-- so many objects were met up to place `at`, and the walk goes on there
+abbrev pub invariant-loop-stop : goal.invariant-loop-stop
+invariant-loop-stop l =
+    record {
+      within : l.at ≤ length l.record;
+      few : l.objects ≤ 255;
+      met : length (from l.record 0).items ≡ l.objects + length (from l.record l.at).items;
+      stops : (from l.record 0).stop ≡ (from l.record l.at).stop;
+    }
 
-abbrev pub decreases-loop-place : goal.decreases-loop-place
-decreases-loop-place l = length l.record - l.at
+abbrev pub decreases-loop-stop : goal.decreases-loop-stop
+decreases-loop-stop l = length l.record - l.at

@@ -12,8 +12,8 @@ unfolding counts_put
 returns c =
     let a = c.args in
     let there : 4 + 5 * a.n ≡ lengths_count 2 a.n = omega arith in
-    c.put_two_bytes-3.ensures
+    c.put_number-3.ensures
     ∙ ap (over_at 0 (be 2 a.n))
-    (c.put_two_bytes-2.ensures
+    (c.put_number-2.ensures
     ∙ ap (over_at (places_count 2 a.n) (be 2 a.n))
-    (c.put_two_bytes.ensures ∙ ap (λ (k : ℕ). over_at k (be 2 a.n) a.file.now) there))
+    (c.put_number.ensures ∙ ap (λ (k : ℕ). over_at k (be 2 a.n) a.file.now) there))

@@ -1,4 +1,4 @@
-use Prim.Native.Nat.{ℕ, ◌+◌, ◌-◌, ◌≤◌}
+use Prim.Native.Nat.{ℕ, ◌+◌, ◌≤◌}
 use mathlib.Core.Path.{◌≡◌}
 use mathlib.Core.List.{List, map}
 use lib.ListN.{length, drop}
@@ -15,10 +15,11 @@ from s a = walk Crate a (drop a s)
 abbrev pub entries : List ℕ → ℕ → List Entry
 entries s a = map entry_of (from s a).items
 
--- the invariant: i entries were written, and the entries from place `at` on are left to be written
-abbrev pub invariant-loop-tag : goal.invariant-loop-tag
-invariant-loop-tag l = (l.at ≤ length l.record) × (l.i + length (from l.record l.at).items ≡ l.n) × (length l.file ≡ length l.initial.file)
-    × (entries_put 2 l.n l.i (entries l.record l.at) l.file ≡ entries_put 2 l.n 0 (entries l.record 0) l.initial.file)
-
-abbrev pub decreases-loop-tag : goal.decreases-loop-tag
-decreases-loop-tag l = length l.record - l.at
+-- i entries were written, and the entries from place `at` on are left to be written
+abbrev pub invariant-loop-i : goal.invariant-loop-i
+invariant-loop-i l =
+    record {
+      within : l.at ≤ length l.record;
+      left : l.i + length (from l.record l.at).items ≡ l.n;
+      put : entries_put 2 l.n l.i (entries l.record l.at) l.file ≡ entries_put 2 l.n 0 (entries l.record 0) l.initial.file;
+    }

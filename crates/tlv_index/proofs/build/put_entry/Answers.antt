@@ -7,19 +7,14 @@ use Rattle.tlv_index.specs.File.{places_count, lengths_count}
 use Rattle.tlv_index.specs.Steps.{entry_put}
 use Rattle.tlv_index.proofs.build.put_entry.Goals as goal
 
--- the places in the sections of lengths and of places
-in_lengths : (n i : ℕ) → 6 + 5 * n + 2 * i ≡ lengths_count 2 n + 2 + 2 * i
-in_lengths n i = omega arith
-
-in_places : (n i : ℕ) → 4 + 3 * n + 2 * i ≡ places_count 2 n + 2 + 2 * i
-in_places n i = omega arith
-
 pub returns : goal.returns
 unfolding entry_put
 returns c =
     let a = c.args in
-    c.put_three_bytes.ensures
-    ∙ ap (over_at (2 + 3 * a.i) (be 3 a.tag))
-    (c.put_two_bytes-2.ensures
-    ∙ (λ j. over_at (in_places a.n a.i j) (be 2 a.at)
-    ((c.put_two_bytes.ensures ∙ ap (λ (k : ℕ). over_at k (be 2 a.len) a.file.now) (in_lengths a.n a.i)) j)))
+    let in_lengths : 6 + 5 * a.n + 2 * a.i ≡ lengths_count 2 a.n + 2 + 2 * a.i = omega arith in
+    let in_places : 4 + 3 * a.n + 2 * a.i ≡ places_count 2 a.n + 2 + 2 * a.i = omega arith in
+    c.put_number-3.ensures
+    ∙ ap (over_at (2 + 3 * a.i) (be 3 a.object.tag))
+    (c.put_number-2.ensures
+    ∙ (λ j. over_at (in_places j) (be 2 a.object.at)
+    ((c.put_number.ensures ∙ ap (λ (k : ℕ). over_at k (be 2 a.object.len) a.file.now) in_lengths) j)))

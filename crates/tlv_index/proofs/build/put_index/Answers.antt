@@ -9,7 +9,7 @@ use Rattle.tlv_index.proofs.build.put_index.Goals as goal
 
 pub returns : goal.returns
 returns c =
-    let n = c.args.n in
+    let n = c.args.counted.objects in
     let objects = (walk Crate 0 c.args.«record».now).items in
     c.put_counts.ensures
     ∙ ap (counts_put 2 n) (c.put_entries.ensures ∙ ap (entries_put 2 n 0 _) c.put_end.ensures)

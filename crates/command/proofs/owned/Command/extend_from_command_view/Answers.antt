@@ -6,9 +6,6 @@ use Rattle.command.proofs.owned.Command.extend_from_command_view.Goals as goal
 pub returns-then-room-held : goal.returns-then-room-held
 returns-then-room-held c = no_room _ _ _ _ _ (omega arith) c.refused_extension.ensures
 
-pub returns-then-room-held-2 : goal.returns-then-room-held-2
-returns-then-room-held-2 c = no_room _ _ _ _ _ (omega arith) c.refused_extension-then-room-held-2.ensures
-
 pub returns : goal.returns
 returns c =
     extended _ _ _ _ _ _ (omega arith) c.taken.ensures (copied_at c.args.self.len _ _ _ _ c.copy_from_slice.ensures.after (omega arith))

@@ -24,6 +24,3 @@ returns c =
 
 pub loop-place-init : goal.loop-place-init
 loop-place-init c = at_start _
-
-pub loop-place-smaller : goal.loop-place-smaller
-loop-place-smaller c = omega arith

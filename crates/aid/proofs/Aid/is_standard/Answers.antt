@@ -1,7 +1,0 @@
-use native.Mathlib.Omega.{arith}
-use Rattle.aid.specs.Category.{standard}
-use Rattle.aid.proofs.Categories.{same_category}
-use Rattle.aid.proofs.Aid.is_standard.Goals as goal
-
-pub returns : goal.returns
-returns c = same_category c.args.self _ standard _ c.is_in.ensures (omega arith)
