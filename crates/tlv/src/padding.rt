@@ -19,6 +19,7 @@ pub(crate) fn zeros(bytes: &[u8]) -> usize
 
 // How many bytes of padding some bytes start with: zero bytes in the standard reading, none in the crate reading.
 #[tactic(auto, unfolding(crate::specs::Padding::padding))]
+#[inline(always)]
 pub(crate) fn padding(reading: Reading, bytes: &[u8]) -> usize
     ensures { result ≡ padding reading bytes.now }
 {
