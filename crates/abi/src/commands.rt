@@ -9,9 +9,8 @@ use command::Command;
 pub fn command_numbers(command: Command) -> [u64; 7]
     ensures { CommandNumbersIs command result }
 {
-    let class = command.class;
     [
-        u64::from(class.into_inner()),
+        u64::from(command.class.into_inner()),
         u64::from(command.instruction),
         u64::from(command.p1),
         u64::from(command.p2),
@@ -25,9 +24,8 @@ pub fn command_numbers(command: Command) -> [u64; 7]
 pub fn command_of_length(len: usize) -> Command
     ensures { CommandOfLengthIs len result }
 {
-    let class = class::ZERO_CLA;
     Command {
-        class,
+        class: class::ZERO_CLA,
         instruction: 0,
         p1: 0,
         p2: 0,
