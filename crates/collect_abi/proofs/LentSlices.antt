@@ -3,11 +3,11 @@
 use Prim.Native.Nat.{ℕ, ◌≤◌, ◌<◌}
 use mathlib.Core.Path.{◌≡◌, refl, sym, ap, ◌∙◌, subst}
 use mathlib.Core.Bool.{Bool, true, false, cond}
-use mathlib.Core.List.{List, [], ◌∷◌, ◌++◌, append-nil}
+use mathlib.Core.List.{List, [], ◌∷◌}
 use native.Mathlib.Omega.{arith}
 use borrow.Author.Tests.{lt-ltb, le-ltb}
 use lib.Dec.{eqb}
-use lib.ListN.{length}
+use lib.ListN.{length, get_or}
 use Rattle.std.specs.Prelude.{Result}
 use Rattle.basis.specs.declared.refusal.Refusal.{Refusal}
 use Rattle.basis.specs.Reply.{Reply, ok, refused, then}
@@ -48,10 +48,19 @@ start_row x b c vs out r after f g e a =
     let s : Collection = record { sent = Command b; len = 0 } in
     rw f (numbers_of 8 vs (state_numbers s) out r after (e ∙ ap state_numbers g) (eight_numbers s) a)
 
--- the row of an answer that goes on, from the numbers of its state
-pub sending_row : (c : Collection) (vs : List ℕ) → vs ≡ state_numbers c → 0 ∷ 0 ∷ 0 ∷ 0 ∷ (vs ++ []) ≡ sending_numbers c
+-- the row of an answer that goes on, from the numbers of its state one by one
+row_by : (s : Sent) (n : ℕ)
+    → let vs = sent_numbers s n in
+    get_or vs 0 0 ∷ get_or vs 1 0 ∷ get_or vs 2 0 ∷ get_or vs 3 0 ∷ get_or vs 4 0 ∷ get_or vs 5 0 ∷ get_or vs 6 0 ∷ get_or vs 7 0 ∷ [] ≡ vs
+unfolding builder_numbers
+row_by (Command b) n = refl
+row_by (GetResponse b) n = refl
+
+pub sending_row : (c : Collection) (vs : List ℕ) → vs ≡ state_numbers c
+    → 0 ∷ 0 ∷ 0 ∷ 0 ∷ get_or vs 0 0 ∷ get_or vs 1 0 ∷ get_or vs 2 0 ∷ get_or vs 3 0 ∷ get_or vs 4 0 ∷ get_or vs 5 0 ∷ get_or vs 6 0 ∷ get_or vs 7 0 ∷ []
+    ≡ sending_numbers c
 unfolding sending_numbers
-sending_row c vs e = rw (append-nil, e)
+sending_row c vs e = rw e (ap (λ (l : List ℕ). 0 ∷ 0 ∷ 0 ∷ 0 ∷ l) (row_by c.sent c.len))
 
 -- the state by numbers, from a builder without data
 module _ (k c i p q e m n : ℕ) where

@@ -101,9 +101,8 @@ fn sent_by_kind(kind: u8, builder: CommandBuilder) -> Sent
 fn sending_numbers(state: Collection) -> [u64; 12]
     ensures { result ≡ sending_numbers state }
 {
-    let mut row = [0; 12];
-    row[4..].copy_from_slice(&state_numbers(state));
-    row
+    let [kind, class, instruction, p1, p2, le, mode, held] = state_numbers(state);
+    [0, 0, 0, 0, kind, class, instruction, p1, p2, le, mode, held]
 }
 
 // Writes the answer to a response: the end and eight zeros, or the state with what is to be sent next.

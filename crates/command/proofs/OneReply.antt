@@ -7,7 +7,7 @@ use Rattle.basis.specs.declared.refusal.Refusal.{Refusal}
 use Rattle.basis.proofs.OneReply.{one_reply}
 use Rattle.class.specs.declared.Reading.{Reading}
 use Rattle.command.specs.Command.{TryFromIs, DataIs}
-use Rattle.command.specs.Owned.{OwnedIs, ExtendFromCommandViewIs}
+use Rattle.command.specs.Owned.{FromIs, OwnedIs, ExtendFromCommandViewIs}
 use Rattle.command.specs.declared.CommandView.{CommandView}
 use Rattle.command.specs.declared.owned.Command.{Command}
 use Rattle.command.specs.declared.owned.Extended.{Extended}
@@ -17,6 +17,9 @@ view_try_from r s x y p q = one_reply x y p q
 
 pub data_part : (r : Reading) (s x y : List ℕ) → DataIs r s x → DataIs r s y → x ≡ y
 data_part r s x y p q = p ∙⁻¹ q
+
+pub from_view : (v : CommandView) (x y : Command) → FromIs v x → FromIs v y → x ≡ y
+from_view v x y p q = p ∙⁻¹ q
 
 pub try_from : (r : Reading) (s room : List ℕ) (x y : Result Command Refusal) (after after' : List ℕ)
     → OwnedIs r s room x after → OwnedIs r s room y after' → (x ≡ y) × (after ≡ after')

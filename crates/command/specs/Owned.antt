@@ -16,6 +16,10 @@ abbrev pub taken_of : CommandView → ℕ → Bool → Command
 taken_of v n x =
     record { class = v.class; instruction = v.instruction; p1 = v.p1; p2 = v.p2; len = n; le = v.le; extended = x }
 
+-- the promise of `from`: the numbers of a view without the place of its data
+abbrev pub FromIs : CommandView → Command → Type 0
+FromIs v x = x ≡ taken_of v v.len v.extended
+
 -- a copy in a room of m bytes: 2 if the data do not fit (rule 1.2)
 unfoldable pub owned_of : ℕ → CommandView → Reply Command
 owned_of m v = cond (ltb m v.len) (refused 2) (ok (taken_of v v.len v.extended))

@@ -32,7 +32,9 @@ impl CommandView {
     // Reads a command: 1 if it has under four bytes, 3 for the class byte 0xFF, else by its body, which may be refused
     // with 4, 5, and in the standard reading 21 (rules 1.1, 1.3 to 1.5 and 1.21). Instruction, P1 and P2 are any bytes,
     // and the body is the part of the command that starts after byte four (rules 2.1, 2.2 and 12.7).
+    // Inlined, so that what is read stays in registers.
     #[tactic(auto, unfolding(crate::specs::Command::parse))]
+    #[inline(always)]
     pub fn try_from(reading: Reading, apdu: &[u8]) -> Result<CommandView, Refusal>
         ensures { TryFromIs reading apdu.now result }
     {

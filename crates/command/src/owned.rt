@@ -2,7 +2,7 @@
 // Rules 2.9 and 2.10.
 // Ported, with changes, from src/command.rs of the crate iso7816 0.2.2 (see NOTICE).
 ghost use Rattle.std.specs.Prelude.{◌≡◌, true};
-ghost use Rattle.command.specs.Owned.{taken_of, refused_extension, OwnedIs, ExtendFromCommandViewIs};
+ghost use Rattle.command.specs.Owned.{taken_of, FromIs, refused_extension, OwnedIs, ExtendFromCommandViewIs};
 
 use crate::CommandView;
 use basis::Refusal;
@@ -30,7 +30,7 @@ pub struct Extended {
 }
 
 impl From<CommandView> for Command {
-    ghost from_gives = { λ view made. made ≡ taken_of view view.len view.extended };
+    ghost from_gives = { λ view made. FromIs view made };
 
     // The numbers of a command without the place of its data.
     fn from(view: CommandView) -> Command {

@@ -1,6 +1,6 @@
 // The file, read from front to end. Past its end there are zeros, so a file that is cut short or changed is read to an
 // end too.
-ghost use Rattle.std.specs.Prelude.{◌≡◌, ◌≤◌, length};
+ghost use Rattle.std.specs.Prelude.{◌≡◌, ◌<◌, ◌≤◌, length};
 
 // How many bytes `space` has.
 pub(crate) const SPACE: usize = 65600;
@@ -34,7 +34,9 @@ pub(crate) fn number() -> u32 {
 }
 
 // The next number of three bytes, as a place or a length.
-pub(crate) fn place() -> usize {
+pub(crate) fn place() -> usize
+    ensures { result < 0x100000000 }
+{
     number() as usize
 }
 

@@ -58,6 +58,7 @@ fn put_tag(tag: [u8; 3], part: &mut [u8])
 }
 
 // Writes a length in the shortest form over the front of a part (rule 7.2).
+// Stays: its two bytes are taken one by one, since no scratch array, as that of `to_be_bytes`, holds them (rule 12.15).
 #[tactic(auto, using(crate::proofs::Shown::len_written))]
 fn put_len(n: usize, part: &mut [u8])
     requires { (n ≤ 65535) × (length (len_bytes n) ≤ length part.old) }
@@ -72,10 +73,9 @@ fn put_len(n: usize, part: &mut [u8])
             part[1] = n as u8;
         }
         _ => {
-            let [high, low] = (n as u16).to_be_bytes();
             part[0] = 0x82;
-            part[1] = high;
-            part[2] = low;
+            part[1] = (n / 256) as u8;
+            part[2] = (n % 256) as u8;
         }
     }
 }
